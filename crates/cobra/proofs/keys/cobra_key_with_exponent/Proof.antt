@@ -1,0 +1,67 @@
+use borrow.Author.Needs.{needs}
+use mathlib.Core.List.{List}
+use Prim.Native.Nat.{ℕ}
+use lib.ListN.{set}
+use mathlib.Core.Path.{_≡_, sym, _∙_, ap, ap₂}
+use borrow.Author.Tests.{eq-eqb, ne-eqb, le-leb, lt-leb, lt-ltb, le-ltb}
+use Rattle.cobra.proofs.keys.cobra_key_with_exponent.Statement.{statement}
+use Rattle.cobra.proofs.keys.cobra_key_with_exponent.Tie as tie
+use Rattle.cobra.proofs.keys.cobra_key_with_exponent.Reads as reads
+use Rattle.cobra.proofs.keys.cobra_key_with_exponent.Lts as lts
+use Rattle.cobra.proofs.keys.key_of.Reads as key-of-reads
+use Rattle.cobra.proofs.keys.store.Reads as store-reads
+use Rattle.mono.proofs.MonomialKey.with_exponent.Reads as with-exponent-reads
+
+-- src/keys.rt:93:9
+returns : tie.Need-returns
+returns c = (simp (le-ltb _ 20 (c .if1 .taken)), simp (le-ltb _ 20 (c .if1 .taken)))
+
+-- src/keys.rt:96:9
+returns-2 : tie.Need-returns-2
+returns-2 c =
+    let n = lt-ltb _ 20 (c .before .if1 .left) in
+    let k = ne-eqb _ 20 (c .if2 .taken) in
+    (simp (n, k), simp (n, k))
+
+-- src/keys.rt:98:19
+key-of-requires : tie.Need-key-of-requires
+key-of-requires c κs = search needs
+
+-- src/keys.rt:98:9
+with-exponent-requires : tie.Need-with-exponent-requires
+with-exponent-requires c κs = search needs
+
+-- src/keys.rt:99:5
+store-requires : tie.Need-store-requires
+store-requires c κs = search needs
+
+-- src/keys.rt:87:1
+same-length : tie.Need-same-length
+same-length c = search needs
+
+-- src/keys.rt:87:1
+returns-3 : tie.Need-returns-3
+returns-3 c =
+    let e = c .before .before .before .before .before .before .before in
+    let a = e .before .before .before .args in
+    let n = lt-ltb _ 20 (e .before .if1 .left) in
+    let k = eq-eqb _ 20 (e .if2 .left) in (
+      simp (n, k),
+      simp (n, k)
+          (c .before .before .store .ensures
+          ∙ c .before .before .before .before .with-exponent .ensures .1
+          ∙ (simp n)
+          ∙ ap (λ (key : List ℕ). set key (a .var-index) (a .new-val)) (c .before .before .before .before .before .key-of .ensures)),
+    )
+
+pub cobra-key-with-exponent-spec : {M : Type 1} → statement M
+cobra-key-with-exponent-spec =
+    tie.close
+    (tie.spec
+    returns
+    returns-2
+    key-of-requires
+    with-exponent-requires
+    store-requires
+    same-length
+    returns-3)

@@ -1,0 +1,101 @@
+use borrow.Author.Needs.{needs}
+use mathlib.Core.Path.{_≡_, _∙_, ap₂}
+use Prim.Native.Nat.{_-_, _/_, _%_, _≤_}
+use Rattle.math_utils.specs.Kinds.{next}
+use Rattle.math_utils.proofs.Entries.{entry-corner, entry-left, entry-top, entry-inner, row-before, before-first}
+use native.Mathlib.Omega.{arith}
+use Rattle.math_utils.proofs.stirling.entry_at.Statement.{statement}
+use Rattle.math_utils.proofs.stirling.entry_at.Tie as tie
+use Rattle.math_utils.proofs.stirling.entry_at.Reads as reads
+use Rattle.math_utils.proofs.stirling.entry_at.Lts as lts
+use Rattle.math_utils.proofs.stirling.next_entry.Reads as next-entry-reads
+
+-- src/stirling.rt:36:13
+div-i : tie.Need-div-i
+div-i c = search needs
+
+-- src/stirling.rt:37:13
+rem-j : tie.Need-rem-j
+rem-j c = search needs
+
+-- src/stirling.rt:40:13
+returns : tie.Need-returns
+returns c =
+    let k = c .before .before .before .args in
+    entry-corner (k .kind) (k .bitwidth) (k .side) (k .cell) (c .before .before .before .pre .1 .0) (c .if2 .taken) (c .before .if1 .taken)
+
+-- src/stirling.rt:42:9
+returns-2 : tie.Need-returns-2
+returns-2 c =
+    let k = c .before .before .before .args in
+    entry-left (k .kind) (k .bitwidth) (k .side) (k .cell) (c .if2 .left) (c .before .if1 .taken)
+
+-- src/stirling.rt:45:9
+returns-3 : tie.Need-returns-3
+returns-3 c =
+    let k = c .before .before .before .args in
+    entry-top (k .kind) (k .bitwidth) (k .side) (k .cell) (c .if3 .taken) (c .before .if1 .left)
+
+-- src/stirling.rt:51:15
+sub-next-entry : tie.Need-sub-next-entry
+sub-next-entry c = let k = c .before .before .before .args in row-before (k .kind) (k .bitwidth) (k .side) (k .cell) (c .if3 .left)
+
+-- src/stirling.rt:51:9
+mul-next-entry : tie.Need-mul-next-entry
+mul-next-entry c = search needs
+
+-- src/stirling.rt:51:9
+shared-slice-read-next-entry : tie.Need-shared-slice-read-next-entry
+shared-slice-read-next-entry c = search needs
+
+-- src/stirling.rt:52:15
+sub-next-entry-2 : tie.Need-sub-next-entry-2
+sub-next-entry-2 c = let k = c .before .before .before .before .args in row-before (k .kind) (k .bitwidth) (k .side) (k .cell) (c .before .if3 .left)
+
+-- src/stirling.rt:52:15
+sub-next-entry-3 : tie.Need-sub-next-entry-3
+sub-next-entry-3 c =
+    let k = c .before .before .before .before .args in
+    before-first (k .kind) (k .bitwidth) (k .side) (k .cell) (c .before .if3 .left) (c .before .before .if1 .left)
+
+-- src/stirling.rt:52:9
+mul-next-entry-2 : tie.Need-mul-next-entry-2
+mul-next-entry-2 c = search needs
+
+-- src/stirling.rt:52:9
+shared-slice-read-next-entry-2 : tie.Need-shared-slice-read-next-entry-2
+shared-slice-read-next-entry-2 c = search needs
+
+-- src/stirling.rt:47:5
+next-entry-requires : tie.Need-next-entry-requires
+next-entry-requires c κs = search needs
+
+-- src/stirling.rt:30:1
+returns-4 : tie.Need-returns-4
+returns-4 c =
+    let b = c .before .before .before .before .before .before in
+    let k = b .args in
+    let e = c .before .before .before .if3 .left in
+    let h : k .side ≤ k .cell = row-before (k .kind) (k .bitwidth) (k .side) (k .cell) e in
+    c .next-entry .ensures
+    ∙ ap₂ (next (k .kind) (k .bitwidth) (k .cell / k .side) (k .cell % k .side)) (b .pre .1 .1 (k .cell - k .side) (omega arith)) (b .pre .1 .1 (k .cell - k .side - 1) (omega arith))
+    ∙ entry-inner (k .kind) (k .bitwidth) (k .side) (k .cell) (b .pre .0 .0) e (c .before .before .before .before .if1 .left)
+
+pub entry-at-spec : {M : Type 1} → statement M
+entry-at-spec =
+    tie.close
+    (tie.spec
+    div-i
+    rem-j
+    returns
+    returns-2
+    returns-3
+    sub-next-entry
+    mul-next-entry
+    shared-slice-read-next-entry
+    sub-next-entry-2
+    sub-next-entry-3
+    mul-next-entry-2
+    shared-slice-read-next-entry-2
+    next-entry-requires
+    returns-4)

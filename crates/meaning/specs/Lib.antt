@@ -1,0 +1,18 @@
+-- What the words of the contracts and theorems mean. A reader who believes these files believes what the project says.
+-- No law is proved here: the crate `theory` has them.
+pub mod Tables
+pub mod Sums
+pub mod Factorials
+pub mod Inverses
+pub mod Stirling
+pub mod Boxes
+pub mod Values
+pub mod Integers
+pub mod Polynomials
+pub mod Differences
+pub mod Conversions
+pub mod Recovery
+pub mod Replies
+pub mod Leaves
+pub mod Settings
+pub mod Calls

@@ -1,0 +1,46 @@
+-- The settings of a call and the order in which they are turned down. A box has a degree for each support variable.
+use Prim.Native.Nat.{ℕ, zero, suc}
+use mathlib.Core.Bool.{Bool, true, false, _&&_, _||_, cond}
+use mathlib.Core.List.{List, [], _∷_}
+use lib.Dec.{leb, ltb, eqb}
+use lib.ListN.{length, replicate}
+use Rattle.meaning.specs.Boxes.{cells}
+
+-- the degree list of a box with the one degree d
+abbrev pub cube : List ℕ → ℕ → List ℕ
+cube support d = replicate (length support) d
+
+-- some entry passes the test
+unfoldable pub some : (ℕ → Bool) → List ℕ → Bool
+some p [] = false
+some p (x ∷ xs) = p x || some p xs
+
+-- some entry stands twice
+unfoldable pub repeated : List ℕ → Bool
+unfolding some
+repeated [] = false
+repeated (x ∷ xs) = some (eqb x) xs || repeated xs
+
+-- the number of the first cause, in the order 1, 2, 3, 4, 5, 7, 8, or 0 where there is none; `strict` says that no degree may be 0, `fits` that
+-- the width does
+unfoldable pub settingsNumber : Bool → ℕ → Bool → List ℕ → List ℕ → ℕ
+unfolding some repeated
+settingsNumber strict total fits support ds =
+    cond (eqb (length support) 0) 1
+    (cond (ltb 20 total) 2
+    (cond fits
+    (cond (strict && some (eqb 0) ds) 4
+    (cond (some (leb total) support) 5
+    (cond (repeated support) 7
+    (cond (ltb 65536 (cells ds)) 8 0))))
+    3))
+
+-- the first number where it is one, else the second
+abbrev pub first : ℕ → ℕ → ℕ
+first zero k = k
+first (suc n) k = suc n
+
+-- then 9 where a lent table does not have its exact length
+unfoldable pub callNumber : Bool → ℕ → Bool → List ℕ → List ℕ → Bool → ℕ
+unfolding settingsNumber
+callNumber strict total fits support ds exact = first (settingsNumber strict total fits support ds) (cond exact 0 9)

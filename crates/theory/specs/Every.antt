@@ -1,0 +1,52 @@
+-- A test of all numbers below a bound, and the search for the least number below a bound at which a statement fails.
+use mathlib.Core.Bool.{Bool, true, false, _&&_}
+use mathlib.Core.Logic.{_⊎_, inl, inr, ⊎-elim, _↔_}
+use Prim.Native.Nat.{ℕ, zero, suc, _<_, suc-le-suc}
+use native.Mathlib.Nat.{zero-lt-suc, not-suc-le-zero, le-of-suc-le-suc}
+use lib.Dec.{T}
+use Rattle.meaning.specs.Recovery.{every}
+
+-- both tests hold exactly when each does
+pub and-iff : (a b : Bool) → T (a && b) ↔ (T a × T b)
+and-iff true b = (λ t. (tt, t), λ t. t .1)
+and-iff false b = (λ t. absurd t, λ t. t .0)
+
+-- what holds of 0 and of the successors of the numbers below n holds of the numbers below n + 1
+pub below-suc : (P : ℕ → Type 0) (n : ℕ) → P 0 → ((i : ℕ) → i < n → P (suc i)) → (i : ℕ) → i < suc n → P i
+below-suc P n p f zero h = p
+below-suc P n p f (suc i) h = f i (le-of-suc-le-suc h)
+
+-- a test of all numbers below n holds exactly when it holds of each
+pub every-iff : (n : ℕ) (p : ℕ → Bool) → T (every n p) ↔ ((i : ℕ) → i < n → T (p i))
+unfolding every
+every-iff zero p = (λ t i h. absurd (not-suc-le-zero h), λ f. tt)
+every-iff (suc n) p =
+    let rest : Bool = every n (λ i. p (suc i)) in
+    let both : T (p 0 && rest) ↔ (T (p 0) × T rest) = and-iff (p 0) rest in
+    let later : T rest ↔ ((i : ℕ) → i < n → T (p (suc i))) = every-iff n (λ i. p (suc i)) in (
+      λ t. below-suc (λ i. T (p i)) n (both .0 t .0) (later .0 (both .0 t .1)),
+      λ f. both .1 (f 0 (zero-lt-suc n), later .1 (λ i h. f (suc i) (suc-le-suc h))),
+    )
+
+-- the least number below n at which P fails
+pub record Failing (n : ℕ) (P : ℕ → Type 0) : Type 0 where
+  pub index : ℕ
+  pub below : index < n
+  pub fails : P index → ⊥
+  pub before : (i : ℕ) → i < index → P i
+
+-- a statement that can be decided holds of all numbers below n, or there is a least one at which it fails
+pub all-or-failing : (n : ℕ) (P : ℕ → Type 0) → ((i : ℕ) → Dec (P i)) → ((i : ℕ) → i < n → P i) ⊎ Failing n P
+all-or-failing zero P dec = inl (λ i h. absurd (not-suc-le-zero h))
+all-or-failing (suc n) P dec = go (dec 0) (all-or-failing n (λ i. P (suc i)) (λ i. dec (suc i)))
+  where
+    go : Dec (P 0) → ((i : ℕ) → i < n → P (suc i)) ⊎ Failing n (λ i. P (suc i)) → ((i : ℕ) → i < suc n → P i) ⊎ Failing (suc n) P
+    go (no q) r = inr (record { index = 0; below = zero-lt-suc n; fails = q; before = λ i h. absurd (not-suc-le-zero h) })
+    go (yes p) (inl f) = inl (below-suc P n p f)
+    go (yes p) (inr s) =
+        inr (record { index = suc (s .index); below = suc-le-suc (s .below); fails = s .fails; before = below-suc P (s .index) p (s .before) })
+
+-- where it does not hold of all, the least one at which it fails
+pub failing : (n : ℕ) (P : ℕ → Type 0) → ((i : ℕ) → Dec (P i)) → (((i : ℕ) → i < n → P i) → ⊥) → Failing n P
+failing n P dec h =
+    ⊎-elim (λ (f : (i : ℕ) → i < n → P i). absurd (h f)) (λ (s : Failing n P). s) (all-or-failing n P dec)

@@ -1,0 +1,155 @@
+//! Compares the project's static library with the Rust that it comes from. README.md says how it is
+//! built, what it prints and how to add a group.
+
+mod core;
+mod definitions;
+mod group;
+mod ir;
+mod judge;
+mod leaves_arith;
+mod leaves_math;
+mod leaves_mono;
+mod library;
+mod passes;
+mod random;
+mod reference;
+mod rows;
+mod settings;
+
+use group::{first_difference, Group};
+use judge::{judge, Failure, Plant};
+use random::mix;
+use std::process::exit;
+
+/// All groups in the order of the run.
+fn groups() -> Vec<&'static Group> {
+    let mut groups: Vec<&'static Group> = vec![&rows::CHECKED_ROWS];
+    groups.extend(definitions::GROUPS);
+    groups.extend(leaves_arith::GROUPS);
+    groups.extend(leaves_math::GROUPS);
+    groups.extend(leaves_mono::GROUPS);
+    groups
+}
+
+struct Options {
+    seed: u64,
+    cases: Option<u64>,
+    only: Option<String>,
+    selftest: bool,
+}
+
+fn usage(why: &str) -> ! {
+    eprintln!("oracle: {why}");
+    eprintln!("usage: run [--seed N] [--cases N] [--only GROUP] [--selftest]   or   run --sample leaves");
+    exit(2)
+}
+
+fn options() -> Options {
+    let mut options = Options { seed: 1, cases: None, only: None, selftest: false };
+    let mut words = std::env::args().skip(1);
+    while let Some(word) = words.next() {
+        let mut next = || words.next().unwrap_or_else(|| usage(&format!("{word} needs a word")));
+        let number = |word: String| word.parse().unwrap_or_else(|_| usage("not a number"));
+        match word.as_str() {
+            "--seed" => options.seed = number(next()),
+            "--cases" => options.cases = Some(number(next())),
+            "--only" => options.only = Some(next()),
+            "--selftest" => options.selftest = true,
+            _ => usage(&format!("unknown word {word}")),
+        }
+    }
+    options
+}
+
+fn main() {
+    let options = options();
+    let chosen = |g: &&Group| options.only.as_ref().map_or(true, |name| name == g.name);
+    let groups: Vec<_> = groups().into_iter().filter(chosen).collect();
+    if groups.is_empty() {
+        usage("no group of that name");
+    }
+    let cases = options.cases.unwrap_or(if options.selftest { 1_000 } else { 100_000 });
+    println!("oracle: seed {}, {} random cases a leaf", options.seed, commas(cases));
+    let passed = if options.selftest {
+        selftest(&groups, options.seed, cases)
+    } else {
+        compare_all(&groups, options.seed, cases)
+    };
+    exit(i32::from(!passed))
+}
+
+fn compare_all(groups: &[&Group], seed: u64, cases: u64) -> bool {
+    let (mut total, mut total_by_rust) = (0, 0);
+    for group in groups {
+        let verdict = judge(group, seed, cases, Plant::Nothing);
+        if let Some((first, smallest)) = verdict.failure {
+            let name = group.name;
+            println!("oracle: {name}: DIFFERENCE at case {}", commas(verdict.cases));
+            show(group, "first found", &first);
+            show(group, "smallest found", &smallest);
+            return false;
+        }
+        let (all, by_rust) = (commas(verdict.cases), verdict.by_rust);
+        let how = match by_rust {
+            n if n == verdict.cases => String::new(),
+            n => format!(" ({} with the Rust, the others with document 01 alone)", commas(n)),
+        };
+        println!("oracle: {}: {all} cases agree{how}", group.name);
+        total += verdict.cases;
+        total_by_rust += by_rust;
+    }
+    let (n, total, by_rust) = (groups.len(), commas(total), commas(total_by_rust));
+    println!("oracle: {n} groups, {total} cases agree, {by_rust} of them with the Rust");
+    true
+}
+
+fn show(group: &Group, which: &str, failure: &Failure) {
+    let difference = first_difference(&failure.judged, &failure.expected);
+    println!("oracle: {}: {which}: {}: {difference}", group.name, group.show(&failure.case));
+}
+
+/// Plants wrong answers in each group in turn, in every part of its answers; all must be caught.
+fn selftest(groups: &[&Group], seed: u64, cases: u64) -> bool {
+    let (mut planted, mut caught) = (0, 0);
+    for group in groups {
+        let clean = judge(group, seed, cases, Plant::Nothing);
+        if let Some((_, smallest)) = clean.failure {
+            show(group, "differs before anything is planted", &smallest);
+            return false;
+        }
+        let (mut here, mut found) = (0, 0);
+        for (part, &filled) in clean.filled.iter().enumerate() {
+            let salt = mix(seed ^ mix(part as u64));
+            let plant = Plant::Once { part, nth: mix(salt) % filled.max(1), salt };
+            here += 1;
+            found += u64::from(judge(group, seed, cases, plant).failure.is_some());
+        }
+        println!("oracle: selftest: {}: {found} of {here} wrong answers caught", group.name);
+        planted += here;
+        caught += found;
+    }
+    let shrinks = shrinks_to_the_least(seed, cases);
+    println!("oracle: selftest: shrinking finds the least case: {}", if shrinks { "yes" } else { "NO" });
+    println!("oracle: selftest: {caught} of {planted} planted wrong answers caught");
+    caught == planted && shrinks
+}
+
+/// A product that is wrong from given arguments on must be shown at just these arguments.
+fn shrinks_to_the_least(seed: u64, cases: u64) -> bool {
+    let limits = [1_000_003, 77, 13];
+    let verdict = judge(&leaves_arith::MOD_MUL, seed, cases, Plant::Reaching(limits));
+    verdict.failure.is_some_and(|(_, smallest)| smallest.case.numbers == limits)
+}
+
+/// 1234567 as 1,234,567.
+fn commas(number: u64) -> String {
+    let digits = number.to_string();
+    let mut shown = String::new();
+    for (i, digit) in digits.chars().enumerate() {
+        if i > 0 && (digits.len() - i) % 3 == 0 {
+            shown.push(',');
+        }
+        shown.push(digit);
+    }
+    shown
+}
