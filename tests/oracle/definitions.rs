@@ -17,7 +17,7 @@ fn twos(exponents: &[u64]) -> u32 {
 }
 
 /// The exponent list, or the grid point, of a cell.
-fn digits(mut cell: u64, base: u64, k: usize) -> Vec<u64> {
+pub fn digits(mut cell: u64, base: u64, k: usize) -> Vec<u64> {
     let mut next = || {
         let digit = cell % base;
         cell /= base;
@@ -26,7 +26,7 @@ fn digits(mut cell: u64, base: u64, k: usize) -> Vec<u64> {
     (0..k).map(|_| next()).collect()
 }
 
-fn falling(x: u64, e: u64) -> u64 {
+pub fn falling(x: u64, e: u64) -> u64 {
     (0..e).fold(1, |product: u64, i| product.wrapping_mul(x.wrapping_sub(i)))
 }
 
@@ -35,7 +35,7 @@ fn raised(x: u64, e: u64) -> u64 {
 }
 
 /// The value of a box at a point, modulo 2^width, in falling factorials or in powers.
-fn value(cells: &[u64], s: &Settings, point: &[u64], basis: fn(u64, u64) -> u64) -> u64 {
+pub fn value(cells: &[u64], s: &Settings, point: &[u64], basis: fn(u64, u64) -> u64) -> u64 {
     let mut sum = 0u64;
     for (cell, &coefficient) in cells.iter().enumerate().filter(|(_, &c)| c != 0) {
         let exponents = digits(cell as u64, u64::from(s.degree) + 1, point.len());

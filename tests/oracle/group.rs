@@ -68,6 +68,12 @@ impl Answer {
         self.part(label, 64, cells)
     }
 
+    /// The answer's number, where it has one.
+    pub fn refusal(&self) -> Option<usize> {
+        let number = self.0.first().filter(|part| part.label == "answer")?;
+        Some(number.cells[0] as usize)
+    }
+
     /// How many cells beside the lent tables were written; none is expected.
     pub fn outside(self, cells: usize) -> Self {
         self.part("cells written outside the tables", 32, vec![cells as u64])

@@ -3,6 +3,7 @@
 
 use crate::group::{Answer, Case, Group, Source};
 use crate::random::Random;
+use std::time::{Duration, Instant};
 
 /// A wrong answer planted for the self-test.
 #[derive(Clone, Copy)]
@@ -31,6 +32,8 @@ pub struct Verdict {
     pub cases: u64,
     /// Of these, cases in which the Rust took part.
     pub by_rust: u64,
+    /// Of these, how many were accepted (0) or refused, by number.
+    pub numbers: [u64; 13],
     /// For each part of the answer the number of cases in which it had cells.
     pub filled: Vec<u64>,
     /// The case that failed first, and the smallest one found from it.
@@ -87,23 +90,29 @@ fn judge_case(group: &Group, case: &Case, plant: Plant, verdict: &mut Verdict) {
     let (from, judged, expected) = compare(group, case, plant, &verdict.filled);
     verdict.cases += 1;
     verdict.by_rust += u64::from(from == Source::Rust);
+    if let Some(count) = expected.refusal().and_then(|n| verdict.numbers.get_mut(n)) {
+        *count += 1;
+    }
     for (count, part) in verdict.filled.iter_mut().zip(&judged.0) {
         *count += u64::from(!part.cells.is_empty());
     }
     if judged != expected {
         let case = case.clone();
         let first = Failure { case, judged, expected };
-        let smallest = shrink(group, first.clone(), plant);
+        let smallest = match plant {
+            Plant::Once { .. } => first.clone(), // it shows at one case alone
+            _ => shrink(group, first.clone(), plant),
+        };
         verdict.failure = Some((first, smallest));
     }
 }
 
-/// Tries smaller cases as long as one of them fails too.
+/// Tries smaller cases as long as one of them fails too, for some seconds at most.
 fn shrink(group: &Group, mut least: Failure, plant: Plant) -> Failure {
-    let mut trials = 20_000;
+    let (mut trials, start) = (20_000, Instant::now());
     'again: loop {
         for case in smaller(&least.case) {
-            if trials == 0 {
+            if trials == 0 || start.elapsed() > Duration::from_secs(20) {
                 return least;
             }
             trials -= 1;

@@ -1,8 +1,12 @@
 //! Compares the project's static library with the Rust that it comes from. README.md says how it is
 //! built, what it prints and how to add a group.
 
+mod box_calls;
+mod boxes;
+mod conversions;
 mod core;
 mod definitions;
+mod demand3;
 mod group;
 mod ir;
 mod judge;
@@ -10,25 +14,39 @@ mod leaves_arith;
 mod leaves_math;
 mod leaves_mono;
 mod library;
+mod library_boxes;
 mod passes;
 mod random;
+mod recovery;
 mod reference;
 mod rows;
 mod settings;
+mod singletons;
 
 use group::{first_difference, Group};
 use judge::{judge, Failure, Plant};
 use random::mix;
 use std::process::exit;
 
-/// All groups in the order of the run.
-fn groups() -> Vec<&'static Group> {
-    let mut groups: Vec<&'static Group> = vec![&rows::CHECKED_ROWS];
-    groups.extend(definitions::GROUPS);
-    groups.extend(leaves_arith::GROUPS);
-    groups.extend(leaves_math::GROUPS);
-    groups.extend(leaves_mono::GROUPS);
+/// All groups in the order of the run, each with whether the library has its calls. A line that is
+/// taken away here switches its groups off.
+fn groups() -> Vec<(&'static Group, bool)> {
+    let mut groups = Vec::new();
+    groups.extend([&rows::CHECKED_ROWS].map(always));
+    groups.extend(definitions::GROUPS.map(always));
+    groups.extend(leaves_arith::GROUPS.map(always));
+    groups.extend(leaves_math::GROUPS.map(always));
+    groups.extend(leaves_mono::GROUPS.map(always));
+    groups.extend(box_calls::GROUPS);
+    groups.extend(conversions::GROUPS);
+    groups.extend(recovery::GROUPS);
+    groups.extend(singletons::GROUPS);
+    groups.extend(demand3::GROUPS);
     groups
+}
+
+fn always(group: &'static Group) -> (&'static Group, bool) {
+    (group, true)
 }
 
 struct Options {
@@ -36,16 +54,26 @@ struct Options {
     cases: Option<u64>,
     only: Option<String>,
     selftest: bool,
+    numbers: bool,
+    complete: bool,
 }
 
 fn usage(why: &str) -> ! {
     eprintln!("oracle: {why}");
-    eprintln!("usage: run [--seed N] [--cases N] [--only GROUP] [--selftest]   or   run --sample leaves");
+    eprintln!("usage: run [--seed N] [--cases N] [--only GROUP] [--numbers] [--complete] [--selftest]");
+    eprintln!("   or: run --sample leaves|conversions|recovery [--cases-only|--answers-only]");
     exit(2)
 }
 
 fn options() -> Options {
-    let mut options = Options { seed: 1, cases: None, only: None, selftest: false };
+    let mut options = Options {
+        seed: 1,
+        cases: None,
+        only: None,
+        selftest: false,
+        numbers: false,
+        complete: false,
+    };
     let mut words = std::env::args().skip(1);
     while let Some(word) = words.next() {
         let mut next = || words.next().unwrap_or_else(|| usage(&format!("{word} needs a word")));
@@ -55,6 +83,8 @@ fn options() -> Options {
             "--cases" => options.cases = Some(number(next())),
             "--only" => options.only = Some(next()),
             "--selftest" => options.selftest = true,
+            "--numbers" => options.numbers = true,
+            "--complete" => options.complete = true,
             _ => usage(&format!("unknown word {word}")),
         }
     }
@@ -63,24 +93,32 @@ fn options() -> Options {
 
 fn main() {
     let options = options();
-    let chosen = |g: &&Group| options.only.as_ref().map_or(true, |name| name == g.name);
-    let groups: Vec<_> = groups().into_iter().filter(chosen).collect();
+    let chosen = |g: &Group| options.only.as_ref().map_or(true, |name| g.name.starts_with(name));
+    let groups: Vec<_> = groups().into_iter().filter(|(group, _)| chosen(group)).collect();
     if groups.is_empty() {
         usage("no group of that name");
     }
     let cases = options.cases.unwrap_or(if options.selftest { 1_000 } else { 100_000 });
-    println!("oracle: seed {}, {} random cases a leaf", options.seed, commas(cases));
+    println!("oracle: seed {}, {} random cases a group", options.seed, commas(cases));
     let passed = if options.selftest {
         selftest(&groups, options.seed, cases)
     } else {
-        compare_all(&groups, options.seed, cases)
+        compare_all(&groups, options.seed, cases, options.numbers)
     };
-    exit(i32::from(!passed))
+    let missing = groups.iter().filter(|(_, here)| !here).count();
+    if missing > 0 {
+        println!("oracle: {missing} groups are not in the library");
+    }
+    exit(i32::from(!passed || options.complete && missing > 0))
 }
 
-fn compare_all(groups: &[&Group], seed: u64, cases: u64) -> bool {
+fn compare_all(groups: &[(&Group, bool)], seed: u64, cases: u64, numbers: bool) -> bool {
     let (mut total, mut total_by_rust) = (0, 0);
-    for group in groups {
+    for (group, here) in groups {
+        if !here {
+            println!("oracle: {}: not in the library", group.name);
+            continue;
+        }
         let verdict = judge(group, seed, cases, Plant::Nothing);
         if let Some((first, smallest)) = verdict.failure {
             let name = group.name;
@@ -95,10 +133,16 @@ fn compare_all(groups: &[&Group], seed: u64, cases: u64) -> bool {
             n => format!(" ({} with the Rust, the others with document 01 alone)", commas(n)),
         };
         println!("oracle: {}: {all} cases agree{how}", group.name);
+        if numbers {
+            let counts = verdict.numbers.iter().enumerate().filter(|(_, &count)| count > 0);
+            let shown = counts.map(|(n, &count)| format!("{n}: {}", commas(count)));
+            println!("oracle:     by number: {}", shown.collect::<Vec<_>>().join("; "));
+        }
         total += verdict.cases;
         total_by_rust += by_rust;
     }
-    let (n, total, by_rust) = (groups.len(), commas(total), commas(total_by_rust));
+    let n = groups.iter().filter(|(_, here)| *here).count();
+    let (total, by_rust) = (commas(total), commas(total_by_rust));
     println!("oracle: {n} groups, {total} cases agree, {by_rust} of them with the Rust");
     true
 }
@@ -109,9 +153,13 @@ fn show(group: &Group, which: &str, failure: &Failure) {
 }
 
 /// Plants wrong answers in each group in turn, in every part of its answers; all must be caught.
-fn selftest(groups: &[&Group], seed: u64, cases: u64) -> bool {
+fn selftest(groups: &[(&Group, bool)], seed: u64, cases: u64) -> bool {
     let (mut planted, mut caught) = (0, 0);
-    for group in groups {
+    for (group, here) in groups {
+        if !here {
+            println!("oracle: {}: not in the library", group.name);
+            continue;
+        }
         let clean = judge(group, seed, cases, Plant::Nothing);
         if let Some((_, smallest)) = clean.failure {
             show(group, "differs before anything is planted", &smallest);

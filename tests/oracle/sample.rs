@@ -1,5 +1,6 @@
-//! A sample of the Rust's answers for a replay without Rust: one case a line, decimal numbers with
-//! single blanks, `OP A B C ANSWERNUMBER ANSWERVALUE`. All cases are within document 01's ranges.
+//! A sample of the Rust's answers on the leaves for a replay without Rust: one case a line, decimal
+//! numbers with single blanks, `OP A B C ANSWERNUMBER ANSWERVALUE`. All cases are within document 01's
+//! ranges.
 
 use crate::core::arith;
 use crate::ir::math_utils as rust;
@@ -77,7 +78,26 @@ fn random(op: u64, r: &mut Random) -> [u64; 3] {
     }
 }
 
-pub fn print_leaves() {
+/// What of a line is printed.
+#[derive(Clone, Copy)]
+pub enum Printed {
+    Whole,
+    Cases,
+    Answers,
+}
+
+impl Printed {
+    pub fn line(self, case: &[u64], answer: &[u64]) {
+        let numbers: Vec<u64> = match self {
+            Self::Whole => [case, answer].concat(),
+            Self::Cases => case.to_vec(),
+            Self::Answers => answer.to_vec(),
+        };
+        println!("{}", numbers.iter().map(u64::to_string).collect::<Vec<_>>().join(" "));
+    }
+}
+
+pub fn print_leaves(printed: Printed) {
     for op in 1..=13 {
         let mut r = Random::new(1, &format!("sample {op}"));
         let mut cases = corners(op);
@@ -89,7 +109,7 @@ pub fn print_leaves() {
         }
         for case in cases {
             let [a, b, c] = case;
-            println!("{op} {a} {b} {c} 0 {}", answer(op, case));
+            printed.line(&[op, a, b, c], &[0, answer(op, case)]);
         }
     }
 }

@@ -3,18 +3,38 @@
 
 #![allow(dead_code)]
 
+mod boxes;
 mod core;
+mod group;
 mod ir;
+mod library_boxes;
+mod passes;
 mod random;
+mod reference;
 mod sample;
+mod sample_boxes;
+mod settings;
+
+use sample::Printed;
+
+fn usage() -> ! {
+    eprintln!("usage: run --sample leaves|conversions|recovery [--cases-only|--answers-only]");
+    std::process::exit(2)
+}
 
 fn main() {
     let words: Vec<String> = std::env::args().skip(1).collect();
-    match words.iter().map(String::as_str).collect::<Vec<_>>()[..] {
-        ["--sample", "leaves"] => sample::print_leaves(),
-        _ => {
-            eprintln!("usage: run --sample leaves");
-            std::process::exit(2)
-        }
+    let words: Vec<&str> = words.iter().map(String::as_str).collect();
+    let (name, printed) = match words[..] {
+        ["--sample", name] => (name, Printed::Whole),
+        ["--sample", name, "--cases-only"] => (name, Printed::Cases),
+        ["--sample", name, "--answers-only"] => (name, Printed::Answers),
+        _ => usage(),
+    };
+    match name {
+        "leaves" => sample::print_leaves(printed),
+        "conversions" => sample_boxes::print_conversions(printed),
+        "recovery" => sample_boxes::print_recovery(printed),
+        _ => usage(),
     }
 }

@@ -1,7 +1,7 @@
 // The answers of the calls. specs/Said.antt gives the number and the value of each.
 ghost use mathlib.Core.Path.{_≡_};
 ghost use Rattle.meaning.specs.Replies.{told};
-ghost use Rattle.answers.specs.Said.{code, saidNumber, said};
+ghost use Rattle.answers.specs.Said.{code, saidNumber, said, saidTruth};
 
 // Why a call is turned down.
 pub enum Refusal {
@@ -90,6 +90,26 @@ pub fn deliver(answer: Number, value: &mut u64) -> u32
             0
         }
         Number::Refused(refusal) => {
+            *value = 0;
+            refusal_code(refusal)
+        }
+    }
+}
+
+// The number that a yes or no says, with 1 or 0, or 0 beside a refusal, stored at `value`.
+pub fn deliver_truth(answer: Truth, value: &mut u64) -> u32
+    ensures { λ r. ⌜ told r (now (value .exit)) ≡ saidTruth answer ⌝ }
+{
+    match answer {
+        Truth::Yes => {
+            *value = 1;
+            0
+        }
+        Truth::No => {
+            *value = 0;
+            0
+        }
+        Truth::Refused(refusal) => {
             *value = 0;
             refusal_code(refusal)
         }

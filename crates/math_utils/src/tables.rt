@@ -5,7 +5,10 @@ ghost use Rattle.meaning.specs.Tables.{tabulate};
 ghost use Rattle.meaning.specs.Factorials.{factorial, oddPart};
 ghost use Rattle.meaning.specs.Inverses.{inverse};
 
-const ODD_FACTORIALS: [u64; 256] = [
+// A table with an entry for each degree from 0 to 255.
+pub type DegreeTable = [u64; 256];
+
+const ODD_FACTORIALS: DegreeTable = [
     0x0000000000000001,
     0x0000000000000001,
     0x0000000000000001,
@@ -264,7 +267,7 @@ const ODD_FACTORIALS: [u64; 256] = [
     0x77bd94b906273c8b,
 ];
 
-const ODD_FACTORIAL_INVERSES: [u64; 256] = [
+const ODD_FACTORIAL_INVERSES: DegreeTable = [
     0x0000000000000001,
     0x0000000000000001,
     0x0000000000000001,
@@ -524,14 +527,14 @@ const ODD_FACTORIAL_INVERSES: [u64; 256] = [
 ];
 
 // The table of odd parts: entry k is the odd part of k! modulo 2^64.
-pub fn odd_factorials() -> [u64; 256]
+pub fn odd_factorials() -> DegreeTable
     ensures { λ r. ⌜ r ≡ tabulate 256 (λ k. oddPart (factorial k) % 2 ^ 64) ⌝ }
 {
     ODD_FACTORIALS
 }
 
 // The table of their inverses: entry k times the odd part of k! is 1 modulo 2^64.
-pub fn odd_factorial_inverses() -> [u64; 256]
+pub fn odd_factorial_inverses() -> DegreeTable
     ensures { λ r. ⌜ r ≡ tabulate 256 (λ k. inverse (oddPart (factorial k)) 64) ⌝ }
 {
     ODD_FACTORIAL_INVERSES

@@ -6,7 +6,7 @@ use lib.Dec.{ltb, eqb}
 use lib.ListN.{length}
 use Rattle.meaning.specs.Tables.{tabulate, at}
 use Rattle.meaning.specs.Boxes.{cells, digits}
-use Rattle.meaning.specs.Values.{value, bound, boxTotal}
+use Rattle.meaning.specs.Values.{value, bound, boxTotal, boxReduced}
 use Rattle.meaning.specs.Recovery.{every, accepts, answer}
 use Rattle.meaning.specs.Replies.{Reply, accepted, refused, between}
 use Rattle.meaning.specs.Settings.{settingsNumber, callNumber, first}
@@ -91,6 +91,15 @@ sumNumber total w support ds a b out =
 unfoldable pub sumLeft : ℕ → ℕ → List ℕ → List ℕ → List ℕ → List ℕ → List ℕ → List ℕ
 unfolding sumNumber boxTotal bound
 sumLeft total w support ds a b out = left (sumNumber total w support ds a b out) (boxTotal (bound w) ds a b) out
+
+-- each coefficient of a box taken modulo its bound, in place
+unfoldable pub reduceNumber : ℕ → ℕ → List ℕ → List ℕ → List ℕ → ℕ
+unfolding callNumber
+reduceNumber total w support ds c = callNumber false total (between 2 64 w) support ds (eqb (length c) (cells ds))
+
+unfoldable pub reduceLeft : ℕ → ℕ → List ℕ → List ℕ → List ℕ → List ℕ
+unfolding reduceNumber boxReduced bound
+reduceLeft total w support ds c = left (reduceNumber total w support ds c) (boxReduced (bound w) ds c) c
 
 -- recovery: settings and lengths, then 6 where a difference does not pass
 unfoldable pub recoveryNumber : ℕ → ℕ → List ℕ → List ℕ → List ℕ → List ℕ → ℕ

@@ -16,3 +16,6 @@ pub mod Replies
 pub mod Leaves
 pub mod Settings
 pub mod Calls
+pub mod Singletons
+pub mod Elimination
+pub mod Fit

@@ -49,3 +49,7 @@ Normal w ds c = Bounded (bound w) ds c
 -- the sum of two coefficient boxes, each coefficient kept below its bound
 unfoldable pub boxTotal : (List ℕ → ℕ) → List ℕ → List ℕ → List ℕ → List ℕ
 boxTotal h ds a b = tabulate (cells ds) (λ n. (at a n + at b n) % h (digits ds n))
+
+-- a coefficient box with each coefficient taken modulo its bound
+unfoldable pub boxReduced : (List ℕ → ℕ) → List ℕ → List ℕ → List ℕ
+boxReduced h ds c = tabulate (cells ds) (λ n. at c n % h (digits ds n))

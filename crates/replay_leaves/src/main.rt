@@ -5,59 +5,7 @@ use answers::Number;
 use answers::Outcome;
 use answers::Refusal;
 use math_utils::Precision;
-
-// The numbers of a line so far, and the one that is being read.
-struct Case {
-    numbers: [u64; 4],
-    count: usize,
-    value: u64,
-    open: bool,
-}
-
-fn fresh() -> Case {
-    Case {
-        numbers: [0u64; 4],
-        count: 0,
-        value: 0,
-        open: false,
-    }
-}
-
-// With one digit more.
-fn digit(case: Case, byte: u8) -> Case {
-    let numbers = case.numbers;
-    let shifted = arith::wrapping_mul(case.value, 10);
-    Case {
-        numbers: numbers,
-        count: case.count,
-        value: std::num::wrapping_add_u64(shifted, (byte % 16) as u64),
-        open: true,
-    }
-}
-
-// With the number that is being read put away.
-fn closed(case: Case) -> Case {
-    let at = case.count;
-    let value = case.value;
-    let mut numbers = case.numbers;
-    if case.open {
-        if at < 4 {
-            numbers[at] = value;
-            return Case {
-                numbers: numbers,
-                count: at + 1,
-                value: 0,
-                open: false,
-            };
-        }
-    }
-    Case {
-        numbers: numbers,
-        count: at,
-        value: 0,
-        open: false,
-    }
-}
+use replay_text::Line;
 
 fn low32(x: u64) -> u32 {
     (x % 0x1_0000_0000) as u32
@@ -139,28 +87,28 @@ fn say(answer: Number) {
 }
 
 // One byte of the text: a digit, the end of a line, or what parts two numbers.
-fn read_byte(case: Case, byte: u8) -> Case {
+fn read_byte(line: Line, byte: u8) -> Line {
     if byte == b'\n' {
-        let whole = closed(case);
+        let whole = line.closed();
         let numbers = whole.numbers;
         say(answer(numbers[0], numbers[1], numbers[2], numbers[3]));
-        return fresh();
+        return Line::empty();
     }
     if byte < b'0' {
-        return closed(case);
+        return line.closed();
     }
     if b'9' < byte {
-        return closed(case);
+        return line.closed();
     }
-    digit(case, byte)
+    line.with_digit(byte)
 }
 
 // Reads a text of cases.
 fn replay(text: &[u8]) {
-    let mut case = fresh();
+    let mut line = Line::empty();
     let mut i = 0;
     while i < text.len() {
-        case = read_byte(case, text[i]);
+        line = read_byte(line, text[i]);
         i += 1;
     }
 }

@@ -5,6 +5,7 @@ use Prim.Native.Nat.{ℕ, zero, suc, _+_, _*_, _-_, _/_, _≤_, _<_, zero-le}
 use mathlib.Core.Logic.{_⊎_, ⊎-elim}
 use native.Mathlib.Nat.{le-of-suc-le-suc, not-suc-le-zero, eq-or-lt-of-le, sub-zero}
 use native.Mathlib.Numerals.{add-one}
+use native.Mathlib.Decide.{decLe}
 use native.Mathlib.Omega.{arith}
 use borrow.Author.Tests.{le-leb, lt-leb, leb-true, leb-false}
 use lib.Dec.{leb}
@@ -52,6 +53,21 @@ pub degreeCap-least : (w : ℕ) → Least w (degreeCap w)
 unfolding degreeCap
 degreeCap-least w =
     capFrom-least w (2 * w) 0 (2 * w) (omega arith) (omega (arith, half-le-twos (2 * w))) (λ e h. absurd (not-suc-le-zero h))
+
+-- the cap is no lower than the width, and at widths to 64 no higher than 66, since 66! has 64 twos
+pub width-le-degreeCap : (w : ℕ) → w ≤ degreeCap w
+width-le-degreeCap w = omega (arith, degreeCap-least w .enough, legendre (degreeCap w))
+
+twos-66 : twos (factorial 66) ≡ 64
+unfolding ones
+twos-66 = omega (arith, legendre 66)
+
+pub degreeCap-le : (w : ℕ) → w ≤ 64 → degreeCap w ≤ 66
+degreeCap-le w h = go (decLe (degreeCap w) 66)
+  where
+    go : Dec (degreeCap w ≤ 66) → degreeCap w ≤ 66
+    go (yes p) = p
+    go (no p) = absurd (omega (arith, degreeCap-least w .first 66 (omega arith), twos-66))
 
 -- the search as a loop: d has been reached, and what is left to search gives the cap
 pub record Search (w d : ℕ) : Type 0 where

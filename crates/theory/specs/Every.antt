@@ -1,8 +1,9 @@
 -- A test of all numbers below a bound, and the search for the least number below a bound at which a statement fails.
+use mathlib.Core.Path.{_≡_, sym, subst}
 use mathlib.Core.Bool.{Bool, true, false, _&&_}
 use mathlib.Core.Logic.{_⊎_, inl, inr, ⊎-elim, _↔_}
 use Prim.Native.Nat.{ℕ, zero, suc, _<_, suc-le-suc}
-use native.Mathlib.Nat.{zero-lt-suc, not-suc-le-zero, le-of-suc-le-suc}
+use native.Mathlib.Nat.{zero-lt-suc, not-suc-le-zero, le-of-suc-le-suc, eq-or-lt-of-le}
 use lib.Dec.{T}
 use Rattle.meaning.specs.Recovery.{every}
 
@@ -15,6 +16,10 @@ and-iff false b = (λ t. absurd t, λ t. t .0)
 pub below-suc : (P : ℕ → Type 0) (n : ℕ) → P 0 → ((i : ℕ) → i < n → P (suc i)) → (i : ℕ) → i < suc n → P i
 below-suc P n p f zero h = p
 below-suc P n p f (suc i) h = f i (le-of-suc-le-suc h)
+
+-- what holds of n, and of i where it is below n, holds of i below n + 1
+pub last : (P : ℕ → Type 0) {n : ℕ} (i : ℕ) → i < suc n → P n → (i < n → P i) → P i
+last P {n} i p h k = ⊎-elim (λ (e : i ≡ n). subst P (sym e) h) k (eq-or-lt-of-le (le-of-suc-le-suc p))
 
 -- a test of all numbers below n holds exactly when it holds of each
 pub every-iff : (n : ℕ) (p : ℕ → Bool) → T (every n p) ↔ ((i : ℕ) → i < n → T (p i))

@@ -3,7 +3,7 @@
 -- products as it should: from that follow all laws of the residue.
 use mathlib.Core.Path.{_≡_, refl, sym, ap}
 use Prim.Native.Nat.{ℕ, zero, suc, pred, _+_, _-_, _*_, _%_, _^_, _≤_, _<_}
-use native.Mathlib.Nat.{mod-lt, suc-pred-eq-of-pos, add-zero, pow-zero, pow-suc, zero-mod}
+use native.Mathlib.Nat.{mod-lt, mul-pos, suc-pred-eq-of-pos, add-zero, pow-zero, pow-suc, zero-mod}
 use native.Mathlib.Omega.{arith}
 use mathlib.Core.Bool.{Bool, true, false, not, cond}
 use mathlib.Core.List.{List, [], _∷_, map}
@@ -20,7 +20,7 @@ use Rattle.meaning.specs.Polynomials.{productℤ, sumℤ, boxAt}
 use Rattle.theory.specs.Sums.{sum-cong}
 use Rattle.theory.specs.Binomials.{mul-falling}
 use Rattle.theory.specs.Congruence.{Cong, cong-of-eq, cong-sym, cong-trans, cong-add, cong-add-left, cong-add-right, cong-mul, cong-mul-left}
-use Rattle.theory.specs.Congruence.{cong-mul-right, cong-add-cancel, cong-add-cancel-cong, mod-cong, eq-of-cong, of-multiples}
+use Rattle.theory.specs.Congruence.{cong-mul-right, cong-add-cancel, cong-add-cancel-cong, mod-cong, eq-of-cong, of-multiples, cong-of-mul}
 
 -- z is its part above zero less its part below
 abbrev above : ℤ → ℕ
@@ -188,3 +188,7 @@ module _ {m : ℕ} (positive : 0 < m) where
       term n =
           cong-trans (residue-mul (productℤ fallingℤ (length ds) zs (digits ds n)) (pos (at c n)))
           (cong-mul (residue-product fallingℤ falling residue-falling (length ds) zs (digits ds n)) (residue-pos (at c n)))
+
+-- residues modulo a multiple of n are, modulo n, those modulo n
+pub residue-of-mul : (n k : ℕ) (z : ℤ) → 0 < n → 0 < k → Cong n (residue (n * k) z) (residue n z)
+residue-of-mul n k z p q = stands-unique (record { part = cong-of-mul n k (stands-residue (mul-pos p q) z .part) }) (stands-residue p z)

@@ -4,11 +4,12 @@
 use mathlib.Core.Path.{_≡_, refl, sym, _∙_, ap, ap₂}
 use mathlib.Core.Logic.{_⊎_, inl, inr, ⊎-elim}
 use Prim.Native.Nat.{ℕ, zero, suc, _+_, _*_, _-_, _/_, _%_, _^_, _≤_, _<_}
-use native.Mathlib.Nat.{pow-succ', mul-assoc, one-mul, mul-div-cancel-left, mul-mul-mul-comm, le-of-suc-le-suc, not-suc-le-zero, le-mul-of-pos-right, zero-lt-suc, mod-lt}
+use native.Mathlib.Nat.{pow-succ', mul-assoc, one-mul, mul-div-cancel-left, mul-mul-mul-comm, le-of-suc-le-suc, not-suc-le-zero, le-mul-of-pos-right, zero-lt-suc, mod-lt, add-comm, lt-of-lt-of-le, lt-of-not-le, lt-irrefl}
+use native.Mathlib.Numerals.{add-one}
 use native.Mathlib.Omega.{arith}
 use lib.Arith.{bin-ind}
-use lib.Pow.{pow-pos, pow-add}
-use lib.Count.{ones, ones-step}
+use lib.Pow.{pow-pos, pow-add, pow-mono}
+use lib.Count.{ones, ones-step, under, trailingZeros}
 use Rattle.meaning.specs.Factorials.{factorial, twosIn, twos, oddPart}
 use Rattle.theory.specs.Congruence.{cong-mul}
 use Rattle.theory.specs.Binomials.{factorial-pos}
@@ -111,6 +112,32 @@ module _ (m n : ℕ) (p : 0 < m) (q : 0 < n) where
 
   pub oddPart-mul : oddPart (m * n) ≡ oddPart m * oddPart n
   oddPart-mul = ap oddPart parts-mul ∙ oddPart-eq (twos m + twos n) _ (odd-mul _ _ (oddPart-odd m p) (oddPart-odd n q))
+
+-- ---- counting zeros
+
+-- the zeros at the end of k digits are the twos among them
+pub trailing-twosIn : (k n : ℕ) → trailingZeros k n ≡ twosIn k n
+unfolding trailingZeros twosIn
+trailing-twosIn zero n = refl
+trailing-twosIn (suc k) n = go (n % 2) (trailing-twosIn k (n / 2))
+  where
+    go : (r : ℕ) → trailingZeros k (n / 2) ≡ twosIn k (n / 2)
+        → under r (trailingZeros k (n / 2)) ≡ elim r [ zero ↦ suc (twosIn k (n / 2)) | suc r ↦ 0 ]
+    go zero e = ap suc e
+    go (suc r) e = refl
+
+-- the zeros at the end of a number of k binary digits are its twos
+pub trailing-eq-twos : (k n : ℕ) → 0 < n → n < 2 ^ k → trailingZeros k n ≡ twos n
+trailing-eq-twos k n h l =
+    let o = oddPart-odd n h in
+    let e = twos-oddPart n h in
+    let low : 2 ^ twos n < 2 ^ k = omega (arith, e, le-mul-of-pos-right (2 ^ twos n) (odd-pos (oddPart n) o)) in
+    trailing-twosIn k n ∙ ap (twosIn k) e ∙ twosIn-eq k (twos n) (oddPart n) o (lt-of-not-le (λ p. lt-irrefl _ (lt-of-lt-of-le low (pow-mono p))))
+
+-- one factor more
+pub twos-factorial : (k : ℕ) → twos (factorial (k + 1)) ≡ twos (factorial k) + twos (k + 1)
+unfolding factorial
+twos-factorial k = rw (add-one k) (twos-mul (suc k) (factorial k) (zero-lt-suc k) (factorial-pos k) ∙ add-comm (twos (suc k)) (twos (factorial k)))
 
 -- ---- Legendre
 

@@ -35,7 +35,7 @@ unfoldable pub powerPolynomial : (m : ℕ) (ds c : List ℕ) → Polynomial ds
 powerPolynomial m ds c = polynomialOf ds (tabulate (cells ds) (λ n. along (powerLine m) ds (entry ds c) (digits ds n)))
 
 -- the residues of natural coordinates are the coordinates, modulo m
-residue-coordinates : {m : ℕ} (positive : 0 < m) (xs : List ℕ) (i : ℕ) → Cong m (at (map (residue m) (map pos xs)) i) (at xs i)
+pub residue-coordinates : {m : ℕ} (positive : 0 < m) (xs : List ℕ) (i : ℕ) → Cong m (at (map (residue m) (map pos xs)) i) (at xs i)
 residue-coordinates positive [] i = cong-refl 0
 residue-coordinates positive (x ∷ xs) zero = residue-pos positive x
 residue-coordinates positive (x ∷ xs) (suc i) = residue-coordinates positive xs i

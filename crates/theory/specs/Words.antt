@@ -4,7 +4,7 @@ use Prim.Native.Nat.{ℕ, suc, _+_, _*_, _-_, _/_, _%_, _^_, _≤_, _<_, min}
 use native.Mathlib.Nat.{mul-add, add-mul, mul-assoc, mul-comm, div-add-mod', min-le-right, min-eq-left, mod-eq-of-lt, one-mul, mod-lt, lt-of-le-of-lt, le-of-lt, mul-le-mul-left, mul-lt-mul-of-pos-right}
 use native.Mathlib.Omega.{arith}
 use lib.Bits.{bitAnd, and-mask}
-use lib.Pow.{mod-mod-pow, pow-add, pow-pos, pow-lt}
+use lib.Pow.{mod-mod-pow, pow-add, pow-pos, pow-lt, ones-split, ones-lt, high}
 use Rattle.meaning.specs.Differences.{minus}
 use Rattle.theory.specs.Congruence.{Cong, cong-of-mul, cong-trans, cong-add-right, mod-cong, eq-of-cong, minus-add, minus-lt, cong-minus-of-add}
 
@@ -24,7 +24,11 @@ cong-of-pow {j} {k} {a} {b} h c =
 pub masked : (n w : ℕ) → bitAnd (n % 2 ^ 64) (2 ^ min w 64 - 1) ≡ n % 2 ^ min w 64
 masked n w = and-mask (n % 2 ^ 64) (min w 64) ∙ low-bits n (min w 64) (min-le-right w 64)
 
--- a mask of a width to 64
+-- a mask of a width to 64 keeps the number modulo 2^width
+pub masked-low : (n w : ℕ) → w ≤ 64 → bitAnd n (2 ^ min w 64 - 1) ≡ n % 2 ^ w
+masked-low n w h = and-mask n (min w 64) ∙ ap (λ (k : ℕ). n % 2 ^ k) (min-eq-left h)
+
+-- the same of the low 64 bits
 pub masked-to : (n w : ℕ) → w ≤ 64 → bitAnd (n % 2 ^ 64) (2 ^ min w 64 - 1) ≡ n % 2 ^ w
 masked-to n w h = masked n w ∙ ap (λ (k : ℕ). n % 2 ^ k) (min-eq-left h)
 
@@ -67,3 +71,9 @@ minus-masked a b w =
     ap (λ (x : ℕ). bitAnd x (2 ^ k - 1)) (sym small) ∙ masked (minus (2 ^ 64) a b) w
     ∙ eq-of-cong (mod-lt (minus (2 ^ 64) a b) (pow-pos k)) (minus-lt a b (pow-pos k))
     (cong-minus-of-add b (pow-pos k) (cong-trans (cong-add-right b cut) sum))
+
+-- a mask shifted right by fewer places than it has ones
+pub mask-shifted : (w t : ℕ) → t ≤ w → (2 ^ w - 1) / 2 ^ t ≡ 2 ^ (w - t) - 1
+mask-shifted w t h =
+    let e : (w - t) + t ≡ w = omega arith in
+    ap (λ (k : ℕ). (2 ^ k - 1) / 2 ^ t) (sym e) ∙ ap (_/ 2 ^ t) (ones-split (w - t) t) ∙ high (2 ^ (w - t) - 1) t (ones-lt t)

@@ -1,0 +1,65 @@
+-- Examples, by computation: two that the page docs/DEMAND-3.md walks through, and four that show why the words of demand 3 say what they say and
+-- not a little more or less.
+use mathlib.Core.Path.{_≡_, refl}
+use mathlib.Core.List.{List, [], _∷_, map}
+use Prim.Native.Nat.{ℕ, _^_}
+use lib.IntN.{pos, negsuc}
+use Rattle.meaning.specs.Tables.{tabulate}
+use Rattle.meaning.specs.Boxes.{cells, cell, digits}
+use Rattle.meaning.specs.Factorials.{twos, factorial, falling, oddPart}
+use Rattle.meaning.specs.Inverses.{lifted}
+use Rattle.meaning.specs.Stirling.{stirling2}
+use Rattle.meaning.specs.Sums.{sum}
+use Rattle.meaning.specs.Values.{value, product}
+use Rattle.meaning.specs.Integers.{residue, powerℤ}
+use Rattle.meaning.specs.Polynomials.{Term, termsAt, productℤ}
+use Rattle.meaning.specs.Conversions.{normalBox}
+use Rattle.meaning.specs.Calls.{recoveryNumber, recoveryLeft, sumLeft}
+use Rattle.demand3.specs.Words.{polynomialValue}
+
+-- one variable at width w: what recovery returns and leaves, with three or five numbers lent
+abbrev number : ℕ → ℕ → List ℕ → ℕ
+number w d v = recoveryNumber 1 w (0 ∷ []) (d ∷ []) v (tabulate (cells (d ∷ [])) (λ n. 7))
+
+abbrev output : ℕ → ℕ → List ℕ → List ℕ
+output w d v = recoveryLeft 1 w (0 ∷ []) (d ∷ []) v (tabulate (cells (d ∷ [])) (λ n. 7))
+
+-- the values 1 2 5 at w 8 and d 2 have the coefficients 1 1 1
+pub one-two-five : (number 8 2 (1 ∷ 2 ∷ 5 ∷ []) ≡ 0) × (output 8 2 (1 ∷ 2 ∷ 5 ∷ []) ≡ 1 ∷ 1 ∷ 1 ∷ [])
+unfolding recoveryNumber recoveryLeft cells cell digits tabulate twos factorial oddPart lifted
+one-two-five = (refl, refl)
+
+-- x⁴ at w 2 and d 4: from its coefficients and from its grid, 1 at the degrees 1 and 2
+pub fourth-power : (normalBox 2 (4 ∷ []) (0 ∷ 0 ∷ 0 ∷ 0 ∷ 1 ∷ []) ≡ 0 ∷ 1 ∷ 1 ∷ 0 ∷ 0 ∷ [])
+    × (output 2 4 (0 ∷ 1 ∷ 0 ∷ 1 ∷ 0 ∷ []) ≡ 0 ∷ 1 ∷ 1 ∷ 0 ∷ 0 ∷ [])
+unfolding normalBox recoveryLeft cells cell digits tabulate twos factorial oddPart lifted sum stirling2
+fourth-power = (refl, refl)
+
+-- every grid point counts: the polynomial 0 has the first two of the values 0 0 1, and they are refused
+pub last-point : number 8 2 (0 ∷ 0 ∷ 1 ∷ []) ≡ 6
+unfolding recoveryNumber cells cell digits tabulate twos factorial
+last-point = refl
+
+-- a degree above d would not do: x³ - 3x² + 2x has the values 0 0 0 on the grid, as 0 has, and 6 at 3
+unfoldable pub cubic : List Term
+cubic =
+    record { coefficient = pos 1; exponents = 3 ∷ [] }
+    ∷ record { coefficient = negsuc 2; exponents = 2 ∷ [] }
+    ∷ record { coefficient = pos 2; exponents = 1 ∷ [] }
+    ∷ []
+
+pub higher-degree : (map (λ (x : ℕ). polynomialValue 8 (2 ∷ []) cubic (pos x ∷ [])) (0 ∷ 1 ∷ 2 ∷ 3 ∷ []) ≡ 0 ∷ 0 ∷ 0 ∷ 6 ∷ [])
+    × (output 8 2 (0 ∷ 0 ∷ 0 ∷ []) ≡ 0 ∷ 0 ∷ 0 ∷ [])
+unfolding recoveryLeft cells cell digits tabulate twos factorial oddPart lifted termsAt productℤ powerℤ residue cubic
+higher-degree = (refl, refl)
+
+-- the bound 2^w would leave two forms: 128 times x (x - 1) is below 2^8 and has the values 0 0 0 too
+pub larger-bound : map (λ (x : ℕ). value (2 ^ 8) (2 ∷ []) (0 ∷ 0 ∷ 128 ∷ []) (x ∷ [])) (0 ∷ 1 ∷ 2 ∷ []) ≡ 0 ∷ 0 ∷ 0 ∷ []
+unfolding value cells digits product falling sum
+larger-bound = refl
+
+-- a sum kept to w bits would not be a normal form: 0 0 254 and 0 0 2 have the coefficients 0 0 127 and 0 0 1, and the sum of the grids is 0 0 0
+pub kept-bits : (output 8 2 (0 ∷ 0 ∷ 254 ∷ []) ≡ 0 ∷ 0 ∷ 127 ∷ []) × (output 8 2 (0 ∷ 0 ∷ 2 ∷ []) ≡ 0 ∷ 0 ∷ 1 ∷ [])
+    × (sumLeft 1 8 (0 ∷ []) (2 ∷ []) (0 ∷ 0 ∷ 127 ∷ []) (0 ∷ 0 ∷ 1 ∷ []) (7 ∷ 7 ∷ 7 ∷ []) ≡ 0 ∷ 0 ∷ 0 ∷ [])
+unfolding recoveryLeft sumLeft cells cell digits tabulate twos factorial oddPart lifted
+kept-bits = (refl, refl, refl)

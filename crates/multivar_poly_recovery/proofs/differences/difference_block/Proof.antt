@@ -1,0 +1,25 @@
+use borrow.Author.Needs.{needs}
+use Rattle.multivar_poly_recovery.proofs.Passes.{Passes, passes-start, passes-step, passes-done}
+use Prim.Native.Nat.{_-_}
+use lib.ListN.{length}
+use Rattle.multivar_poly_recovery.proofs.differences.difference_block.Statement.{statement}
+use Rattle.multivar_poly_recovery.proofs.differences.difference_block.Tie as tie
+
+abbrev Inv-loop : tie.InvT-loop
+Inv-loop part₀ stride d low₀ part low = Passes stride d part₀ part low
+
+abbrev μ-loop : tie.MeasureT-loop
+μ-loop part₀ stride d low₀ part low = length part₀ - low
+
+pub difference-block-spec : {M : Type 1} → statement M
+difference-block-spec =
+    tie.close
+    (tie.spec
+    Inv-loop
+    μ-loop
+    (λ c. passes-start _ _ _)
+    (λ c κs. let b = c .before .before in (b .before .before .pre .0, b .loop .inv .above))
+    (λ c. search needs) (λ c. search needs)
+    (λ c. let b = c .before .before .before .before .before in passes-step _ _ _ (b .loop .part) (b .loop .low) (b .loop .inv) (b .before .before .pre .0) (b .before .before .pre .1) _ (c .before .before .before .before .loop-test .taken) (c .before .before .difference-pass .ensures))
+    (λ c. c .before .loop .inv .passed .shows .same)
+    (λ c. let b = c .before in passes-done _ _ _ (b .loop .part) (b .loop .low) (b .loop .inv) (b .before .before .pre .0) (b .before .before .pre .1) (c .loop-test .left)))

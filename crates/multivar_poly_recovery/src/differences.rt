@@ -1,0 +1,70 @@
+// Newton's differences of a table of values, in place and modulo 2^64: along one variable after the other, block by block, pass by pass.
+ghost use mathlib.Core.Path.{_≡_};
+ghost use Prim.Native.Nat.{ℕ, suc, _*_, _^_, _%_, _≤_, _<_};
+ghost use lib.ListN.{length};
+ghost use Rattle.meaning.specs.Tables.{tabulate, at};
+ghost use Rattle.meaning.specs.Boxes.{cells, cell, digits, along};
+ghost use Rattle.meaning.specs.Differences.{newton};
+ghost use Rattle.theory.specs.FlatTables.{lined, blocked};
+ghost use Rattle.theory.specs.InPlace.{NewtonPassed};
+
+// One pass over a block whose lines have the given stride: from the highest number down to place `low`, each less the one before it on its line.
+fn difference_pass(part: &mut [u64], stride: usize, low: usize)
+    requires { ⌜ (0 < stride) × (stride ≤ low) ⌝ }
+    ensures { λ r. ⌜ ((d p : ℕ) (f : ℕ → ℕ) → low ≡ stride * suc p
+        → NewtonPassed (2 ^ 64) stride d f (length (now (part .entry))) p (now (part .entry))
+        → NewtonPassed (2 ^ 64) stride d f (length (now (part .entry))) (suc p) (now (part .exit))) ⌝ }
+{
+    let mut i = part.len();
+    while low < i {
+        i -= 1;
+        part[i] = arith::wrapping_sub(part[i], part[i - stride]);
+    }
+}
+
+// Every line of one block of stride (d + 1) numbers.
+fn difference_block(part: &mut [u64], stride: usize, d: u8)
+    requires { ⌜ (0 < stride) × (length (now part) ≡ stride * suc d) ⌝ }
+    ensures { λ r. ⌜ now (part .exit) ≡ tabulate (length (now (part .entry))) (lined (newton (2 ^ 64)) stride d (at (now (part .entry)))) ⌝ }
+{
+    let mut low = stride;
+    while low < part.len() {
+        difference_pass(part, stride, low);
+        low += stride;
+    }
+}
+
+// Every block of a table, along the variable with the given stride and degree. The result is the next variable's stride.
+fn difference_variable(table: &mut [u64], stride: usize, d: u8) -> usize
+    requires { ⌜ (0 < stride) × (stride * suc d ≤ length (now table)) × (length (now table) % (stride * suc d) ≡ 0) ⌝ }
+    ensures stride { λ r. ⌜ r ≡ stride * suc d ⌝ }
+    ensures leaves { λ r. ⌜ now (table .exit) ≡ tabulate (length (now (table .entry))) (blocked (newton (2 ^ 64)) stride d (at (now (table .entry)))) ⌝ }
+{
+    // Never so: said for the compiler, which then knows that a stride is not negative.
+    if 0x1000_0000_0000_0000 <= stride {
+        return 0;
+    }
+    let size = stride * (d as usize + 1);
+    let mut from = 0;
+    while size <= table.len() - from {
+        let end = from + size;
+        difference_block(&mut table[from..end], stride, d);
+        from = end;
+    }
+    size
+}
+
+// Newton's differences at 0 of the values in `table`, a number for each cell of the box of `degrees`, first variable fastest: each value is
+// replaced by the difference whose orders are the exponents of its cell, modulo 2^64.
+pub(crate) fn difference_all(table: &mut [u64], degrees: &[u8])
+    requires { ⌜ length (now table) ≡ cells (now degrees) ⌝ }
+    ensures { λ r. ⌜ now (table .exit) ≡ tabulate (length (now (table .entry)))
+        (λ n. along (newton (2 ^ 64)) (now (degrees .entry)) (λ xs. at (now (table .entry)) (cell (now (degrees .entry)) xs)) (digits (now (degrees .entry)) n)) ⌝ }
+{
+    let mut stride = 1;
+    let mut i = 0;
+    while i < degrees.len() {
+        stride = difference_variable(table, stride, degrees[i]);
+        i += 1;
+    }
+}

@@ -1,0 +1,164 @@
+-- What the calls answer, from what is known of settings and lengths: each has the same three cases, settings that are turned down, a wrong length, and the
+-- accepted call.
+use mathlib.Core.Path.{_≡_, refl, sym, _∙_, ap}
+use mathlib.Core.Bool.{Bool, true, false, _&&_, and-false}
+use mathlib.Core.List.{List}
+use Prim.Native.Nat.{ℕ, zero, suc, _^_, _<_}
+use lib.Dec.{eqb}
+use lib.ListN.{length}
+use Rattle.meaning.specs.Boxes.{cells}
+use Rattle.meaning.specs.Values.{value, bound, boxTotal, boxReduced}
+use Rattle.meaning.specs.Recovery.{every}
+use Rattle.meaning.specs.Replies.{accepted, refused, between}
+use Rattle.meaning.specs.Settings.{callNumber, first}
+use Rattle.meaning.specs.Calls.{reply, truth, Form, formNumber, sameList, validReply, valueReply, sameReply, sumNumber, sumLeft, reduceNumber, reduceLeft, left}
+use Rattle.theory.specs.Settings.{passes}
+use Rattle.theory.specs.BoxBounds.{isBelow}
+use Rattle.answers.specs.declared.Refusal.{Refusal}
+use Rattle.answers.specs.Said.{code}
+use Rattle.answers.specs.Laws.{Settled, Unsettled, unsettled-call, reply-code, first-code, turned-reply, turned-left, settled-number, length-reply, length-left, accepted-reply, accepted-left}
+
+-- ---- the value
+
+module _ (w : ℕ) (c xs : List ℕ) {total : ℕ} {support ds : List ℕ} where
+  pub value-turned : {r : Refusal} → Unsettled false total (between 2 64 w) support ds r → refused (code r) ≡ valueReply total w support ds c xs
+  unfolding valueReply
+  value-turned u = turned-reply u (eqb (length c) (cells ds) && eqb (length xs) (length support)) (value (2 ^ w) ds c xs)
+
+  module _ {count : ℕ} (s : Settled false total (between 2 64 w) support ds count) where
+    pub value-lengths : (eqb (length c) (cells ds) && eqb (length xs) (length support)) ≡ false → refused 9 ≡ valueReply total w support ds c xs
+    unfolding valueReply
+    value-lengths e = length-reply s (eqb (length c) (cells ds) && eqb (length xs) (length support)) e (value (2 ^ w) ds c xs)
+
+    pub value-accepted : (eqb (length c) (cells ds) && eqb (length xs) (length support)) ≡ true
+        → {v : ℕ} → v ≡ value (2 ^ w) ds c xs → accepted v ≡ valueReply total w support ds c xs
+    unfolding valueReply
+    value-accepted e q = accepted-reply s (eqb (length c) (cells ds) && eqb (length xs) (length support)) e (value (2 ^ w) ds c xs) q
+
+-- ---- validity
+
+-- the test of a normal form
+abbrev pub isNormal : ℕ → List ℕ → List ℕ → Bool
+isNormal w ds c = between 2 64 w && every (cells ds) (isBelow w ds c)
+
+module _ (w : ℕ) (c : List ℕ) {total : ℕ} {support ds : List ℕ} where
+  pub valid-turned : {r : Refusal} → Unsettled false total true support ds r → refused (code r) ≡ validReply total w support ds c
+  unfolding validReply
+  valid-turned u = turned-reply u (eqb (length c) (cells ds)) (truth (isNormal w ds c))
+
+  module _ {count : ℕ} (s : Settled false total true support ds count) where
+    pub valid-length : eqb (length c) (cells ds) ≡ false → refused 9 ≡ validReply total w support ds c
+    unfolding validReply
+    valid-length e = length-reply s (eqb (length c) (cells ds)) e (truth (isNormal w ds c))
+
+    pub valid-accepted : eqb (length c) (cells ds) ≡ true → (b : Bool) → isNormal w ds c ≡ b → accepted (truth b) ≡ validReply total w support ds c
+    unfolding validReply
+    valid-accepted e b q = accepted-reply s (eqb (length c) (cells ds)) e (truth (isNormal w ds c)) (ap truth (sym q))
+
+-- ---- calls that leave a table
+
+-- `exact` says that the lengths are right; `done` is what an accepted call leaves, `was` what was there
+module _ (exact : Bool) (done was : List ℕ) {total : ℕ} {fits : Bool} {support ds : List ℕ} where
+  pub table-turned : {r : Refusal} → Unsettled false total fits support ds r
+      → (code r ≡ callNumber false total fits support ds exact) × (was ≡ left (callNumber false total fits support ds exact) done was)
+  table-turned u = (sym (unsettled-call u exact), turned-left u exact done was)
+
+  module _ {count : ℕ} (s : Settled false total fits support ds count) where
+    pub table-lengths : exact ≡ false
+        → _≡_ {A = ℕ} 9 (callNumber false total fits support ds exact)
+        × (was ≡ left (callNumber false total fits support ds exact) done was)
+    table-lengths e = (sym (settled-number s exact false e), length-left s exact e done was)
+
+    pub table-accepted : exact ≡ true → {t : List ℕ} → t ≡ done
+        → _≡_ {A = ℕ} 0 (callNumber false total fits support ds exact)
+        × (t ≡ left (callNumber false total fits support ds exact) done was)
+    table-accepted e q = (sym (settled-number s exact true e), q ∙ accepted-left s exact e done was)
+
+-- the sum of two boxes
+module _ (w : ℕ) (a b out : List ℕ) {total : ℕ} {support ds : List ℕ} where
+  pub sum-turned : {r : Refusal} → Unsettled false total (between 2 64 w) support ds r
+      → (code r ≡ sumNumber total w support ds a b out) × (out ≡ sumLeft total w support ds a b out)
+  unfolding sumNumber sumLeft
+  sum-turned u = table-turned (eqb (length a) (cells ds) && eqb (length b) (cells ds) && eqb (length out) (cells ds)) (boxTotal (bound w) ds a b) out u
+
+  module _ {count : ℕ} (s : Settled false total (between 2 64 w) support ds count) where
+    pub sum-lengths : (eqb (length a) (cells ds) && eqb (length b) (cells ds) && eqb (length out) (cells ds)) ≡ false
+        → _≡_ {A = ℕ} 9 (sumNumber total w support ds a b out) × (out ≡ sumLeft total w support ds a b out)
+    unfolding sumNumber sumLeft
+    sum-lengths e = table-lengths (eqb (length a) (cells ds) && eqb (length b) (cells ds) && eqb (length out) (cells ds)) (boxTotal (bound w) ds a b) out s e
+
+    pub sum-accepted : (eqb (length a) (cells ds) && eqb (length b) (cells ds) && eqb (length out) (cells ds)) ≡ true
+        → {t : List ℕ} → t ≡ boxTotal (bound w) ds a b → _≡_ {A = ℕ} 0 (sumNumber total w support ds a b out) × (t ≡ sumLeft total w support ds a b out)
+    unfolding sumNumber sumLeft
+    sum-accepted e q = table-accepted (eqb (length a) (cells ds) && eqb (length b) (cells ds) && eqb (length out) (cells ds)) (boxTotal (bound w) ds a b) out s e q
+
+-- coefficients taken modulo their bounds
+module _ (w : ℕ) (c : List ℕ) {total : ℕ} {support ds : List ℕ} where
+  pub reduce-turned : {r : Refusal} → Unsettled false total (between 2 64 w) support ds r
+      → (code r ≡ reduceNumber total w support ds c) × (c ≡ reduceLeft total w support ds c)
+  unfolding reduceNumber reduceLeft
+  reduce-turned u = table-turned (eqb (length c) (cells ds)) (boxReduced (bound w) ds c) c u
+
+  module _ {count : ℕ} (s : Settled false total (between 2 64 w) support ds count) where
+    pub reduce-length : eqb (length c) (cells ds) ≡ false → _≡_ {A = ℕ} 9 (reduceNumber total w support ds c) × (c ≡ reduceLeft total w support ds c)
+    unfolding reduceNumber reduceLeft
+    reduce-length e = table-lengths (eqb (length c) (cells ds)) (boxReduced (bound w) ds c) c s e
+
+    pub reduce-accepted : eqb (length c) (cells ds) ≡ true → {t : List ℕ} → t ≡ boxReduced (bound w) ds c
+        → _≡_ {A = ℕ} 0 (reduceNumber total w support ds c) × (t ≡ reduceLeft total w support ds c)
+    unfolding reduceNumber reduceLeft
+    reduce-accepted e q = table-accepted (eqb (length c) (cells ds)) (boxReduced (bound w) ds c) c s e q
+
+-- ---- sameness
+
+-- the test that two forms are equal
+abbrev pub sameForms : Form → Form → Bool
+sameForms f g =
+    eqb (f .total) (g .total)
+    && eqb (f .width) (g .width)
+    && sameList (f .support) (g .support)
+    && sameList (f .degrees) (g .degrees)
+    && sameList (f .coefficients) (g .coefficients)
+
+module _ (f g : Form) where
+  pub same-first : (r : Refusal) → code r ≡ formNumber f → refused (code r) ≡ sameReply f g
+  unfolding sameReply
+  same-first r e = reply-code r (truth (sameForms f g)) (first-code r (formNumber g) (sym e))
+
+  module _ (p : _≡_ {A = ℕ} 0 (formNumber f)) where
+    pub same-second : (r : Refusal) → code r ≡ formNumber g → refused (code r) ≡ sameReply f g
+    unfolding sameReply
+    same-second r e = reply-code r (truth (sameForms f g)) (ap (λ (n : ℕ). first n (formNumber g)) (sym p) ∙ sym e)
+
+    pub same-accepted : _≡_ {A = ℕ} 0 (formNumber g) → (b : Bool) → sameForms f g ≡ b → accepted (truth b) ≡ sameReply f g
+    unfolding sameReply
+    same-accepted q b e =
+        ap (λ (t : Bool). accepted (truth t)) (sym e)
+        ∙ ap (λ (n : ℕ). reply n (truth (sameForms f g))) (q ∙ ap (λ (n : ℕ). first n (formNumber g)) p)
+
+    -- a form that passes has a variable
+    pub form-filled : 0 < length (f .support)
+    unfolding callNumber
+    form-filled =
+        passes false (f .total) (between 2 64 (f .width)) (f .support) (f .degrees) (settings-pass _ _ (sym p)) .not-empty
+      where
+        settings-pass : (n k : ℕ) → first n k ≡ 0 → n ≡ 0
+        settings-pass zero k e = refl
+        settings-pass (suc n) k e = e
+
+-- five tests of which one is a no
+module _ (t1 t2 t3 t4 t5 : Bool) where
+  pub no-1 : t1 ≡ false → (t1 && t2 && t3 && t4 && t5) ≡ false
+  no-1 e = simp e
+
+  pub no-2 : t2 ≡ false → (t1 && t2 && t3 && t4 && t5) ≡ false
+  no-2 e = simp (e, and-false)
+
+  pub no-3 : t3 ≡ false → (t1 && t2 && t3 && t4 && t5) ≡ false
+  no-3 e = simp (e, and-false)
+
+  pub no-4 : t4 ≡ false → (t1 && t2 && t3 && t4 && t5) ≡ false
+  no-4 e = simp (e, and-false)
+
+  pub no-5 : t5 ≡ false → (t1 && t2 && t3 && t4 && t5) ≡ false
+  no-5 e = simp (e, and-false)

@@ -1,0 +1,87 @@
+use borrow.Author.Needs.{needs}
+use mathlib.Core.Path.{_≡_, _∙_, sym, ap, ap₂}
+use mathlib.Core.Bool.{Bool, true, false, _&&_, cond}
+use Prim.Native.Nat.{ℕ, _≤_}
+use lib.ListN.{length, replicate}
+use Rattle.meaning.specs.Replies.{between, accepted}
+use Rattle.meaning.specs.Settings.{cube, settingsNumber, callNumber}
+use Rattle.answers.specs.Laws.{Settled, Unsettled, settled, unsettled, settled-call, unsettled-call, reply-code, left-code}
+use Rattle.theory.specs.Settings.{passes, take-cube}
+use lib.Seq.{length-take-le}
+use borrow.Author.Tests.{eq-eqb, ne-eqb}
+use Rattle.meaning.specs.Calls.{reply, settingsReply}
+use Rattle.meaning.specs.Boxes.{cells}
+use lib.Dec.{eqb}
+use Rattle.poly.proofs.check_tables.Statement.{statement}
+use Rattle.poly.proofs.check_tables.Tie as tie
+use Rattle.poly.proofs.check_tables.Reads as reads
+use Rattle.poly.proofs.check_tables.Lts as lts
+use Rattle.poly.proofs.settings.Reads as settings-reads
+
+-- src/lib.rt:165:11
+settings-requires : tie.Need-settings-requires
+settings-requires c κs = search needs
+
+-- src/lib.rt:166:25
+enum-known-refusal : tie.Need-enum-known-refusal
+enum-known-refusal c = search needs
+
+-- src/lib.rt:167:23
+enum-known-count : tie.Need-enum-known-count
+enum-known-count c = search needs
+
+-- the settings pass, with as many cells as they say
+ok : (c : tie.After-count) →
+    let k = c .before .before .before .before .before .before .args in
+    Settled (k .strict) (k .total) (between 2 64 (k .bitwidth)) (k .support .now) (cube (k .support .now) (k .max-degree)) (c .count .given .0 .0)
+unfolding settingsReply
+ok c =
+    let k = c .before .before .before .before .before .before .args in
+    settled (k .strict) (k .total) (between 2 64 (k .bitwidth)) (k .support .now) (cube (k .support .now) (k .max-degree)) (c .before .before .settings .ensures) (c .count .given .1)
+
+-- the settings are turned down
+turned : (c : tie.After-refusal) →
+    let k = c .before .before .before .before .before .before .args in
+    Unsettled (k .strict) (k .total) (between 2 64 (k .bitwidth)) (k .support .now) (cube (k .support .now) (k .max-degree)) (c .refusal .given .0 .0)
+unfolding settingsReply
+turned c =
+    let k = c .before .before .before .before .before .before .args in
+    unsettled (k .strict) (k .total) (between 2 64 (k .bitwidth)) (k .support .now) (cube (k .support .now) (k .max-degree)) (c .before .before .settings .ensures) (c .refusal .given .1)
+
+-- src/lib.rt:169:17
+returns : tie.Need-returns
+returns c =
+    let s = ok (c .before .before) in
+    sym (settled-call s _ ∙ simp (ne-eqb _ _ (λ q. c .if1 .taken (q ∙ sym (s .counted)))))
+
+-- src/lib.rt:172:17
+returns-2 : tie.Need-returns-2
+returns-2 c =
+    let s = ok (c .before .before .before) in
+    sym
+    (settled-call s _
+    ∙ ap (λ (b : Bool). cond b 0 9) (ap₂ _&&_ (eq-eqb _ _ (c .before .if1 .left ∙ s .counted)) (ne-eqb _ _ (λ q. c .if2 .taken (q ∙ sym (s .counted))))))
+
+-- src/lib.rt:154:1
+returns-3 : tie.Need-returns-3
+returns-3 c = sym (unsettled-call (turned (c .before)) _)
+
+-- src/lib.rt:154:1
+returns-4 : tie.Need-returns-4
+returns-4 c =
+    let s = ok (c .before .before .before) in
+    sym
+    (settled-call s _
+    ∙ ap (λ (b : Bool). cond b 0 9) (ap₂ _&&_ (eq-eqb _ _ (c .before .if1 .left ∙ s .counted)) (eq-eqb _ _ (c .if2 .left ∙ s .counted))))
+
+pub check-tables-spec : {M : Type 1} → statement M
+check-tables-spec =
+    tie.close
+    (tie.spec
+    settings-requires
+    enum-known-refusal
+    enum-known-count
+    returns
+    returns-2
+    returns-3
+    returns-4)

@@ -1,0 +1,90 @@
+-- Settings without the width, then the length, then the width, then the walk.
+use borrow.Author.Needs.{needs}
+use mathlib.Core.Path.{_≡_, _∙_, sym, ap, ap₂}
+use mathlib.Core.Bool.{true, false, _&&_}
+use Prim.Native.Nat.{ℕ, _≤_}
+use lib.ListN.{length, replicate}
+use borrow.Author.Tests.{eq-eqb, ne-eqb, not-true, not-false}
+use Rattle.meaning.specs.Boxes.{cells}
+use Rattle.meaning.specs.Replies.{between}
+use Rattle.meaning.specs.Settings.{cube}
+use Rattle.answers.specs.Laws.{Settled, Unsettled, settled, unsettled}
+use Rattle.theory.specs.Settings.{passes, take-cube}
+use lib.Seq.{length-take-le}
+use mathlib.Core.List.{List}
+use Rattle.meaning.specs.Recovery.{every}
+use Rattle.theory.specs.Ranges.{le-of-between}
+use Rattle.theory.specs.BoxBounds.{isBelow}
+use Rattle.poly.proofs.Replies.{valid-turned, valid-length, valid-accepted}
+use Rattle.poly.proofs.is_valid.Statement.{statement}
+use Rattle.poly.proofs.is_valid.Tie as tie
+
+-- the settings pass, with as many cells as they say
+ok : (c : tie.After-count) →
+    let k = c .before .before .before .before .before .args in
+    Settled false (k .total) (true) (k .support .now) (cube (k .support .now) (k .max-degree)) (c .count .given .0 .0)
+ok c =
+    let k = c .before .before .before .before .before .args in
+    settled false (k .total) (true) (k .support .now) (cube (k .support .now) (k .max-degree)) (c .before .before .check .ensures) (c .count .given .1)
+
+-- there are at most twenty variables
+short : (c : tie.After-count) → length (c .before .before .before .before .before .args .support .now) ≤ 20
+short c =
+    let k = c .before .before .before .before .before .args in
+    passes false (k .total) (true) (k .support .now) (cube (k .support .now) (k .max-degree)) (ok c .passes) .short
+
+-- the settings are turned down
+turned : (c : tie.After-refusal) →
+    let k = c .before .before .before .before .before .args in
+    Unsettled false (k .total) (true) (k .support .now) (cube (k .support .now) (k .max-degree)) (c .refusal .given .0 .0)
+turned c =
+    let k = c .before .before .before .before .before .args in
+    unsettled false (k .total) (true) (k .support .now) (cube (k .support .now) (k .max-degree)) (c .before .before .check .ensures) (c .refusal .given .1)
+
+-- the width fits
+wide : (c : tie.Else2) → between 2 64 (c .before .before .before .before .before .before .before .before .before .args .bitwidth) ≡ true
+wide c = sym (c .before .width-fits .ensures) ∙ not-false _ (c .if2 .left)
+
+pub is-valid-spec : {M : Type 1} → statement M
+is-valid-spec =
+    tie.close
+    (tie.spec
+    (λ c κs. search needs) (λ c. search needs) (λ c. search needs)
+    (λ c.
+    let k = c .before .before .before .before .before .before .before .args in
+    valid-length (k .bitwidth) (k .coeffs .now) (ok (c .before .before)) (ne-eqb _ _ (λ q. c .if1 .taken (q ∙ sym (ok (c .before .before) .counted)))))
+    (λ c κs. search needs)
+    (λ c.
+    let k = c .before .before .before .before .before .before .before .before .before .args in
+    let ds = cube (k .support .now) (k .max-degree) in
+    valid-accepted (k .bitwidth) (k .coeffs .now) (ok (c .before .before .before .before))
+    (eq-eqb _ _ (c .before .before .if1 .left ∙ ok (c .before .before .before .before) .counted)) false
+    (ap (_&& every (cells ds) (isBelow (k .bitwidth) ds (k .coeffs .now))) (sym (c .before .width-fits .ensures) ∙ not-true _ (c .if2 .taken))))
+    (λ c. short (c .before .before .before .before))
+    (λ c. sym (length-take-le (length (c .before .before .before .before .before .before .before .before .before .before .args .support .now))
+    (replicate 20 (c .before .before .before .before .before .before .before .before .before .before .args .max-degree))
+    (short (c .before .before .before .before .before))))
+    (λ c κs.
+    let k = c .before .before .before .before .before .before .before .before .before .before .args in (
+      c .before .before .before .if1 .left ∙ ok (c .before .before .before .before .before) .counted ∙ ap cells
+          (sym (take-cube (k .support .now) (k .max-degree) (short (c .before .before .before .before .before)))),
+      le-of-between 2 64 (k .bitwidth)
+          (wide (c .before)),
+    ))
+    (λ c.
+    let k = c .before .before .before .before .before .before .before .before .before .before .before .before .args in
+    valid-accepted (k .bitwidth) (k .coeffs .now) (ok (c .before .before .before .before .before .before .before))
+    (eq-eqb _ _ (c .before .before .before .before .before .if1 .left ∙ ok
+    (c .before .before .before .before .before .before .before) .counted)) true
+    (ap₂ _&&_ (wide (c .before .before .before)) (sym (c .before .bounded .ensures ∙ ap
+    (λ (l : List ℕ). every (cells l) (isBelow (k .bitwidth) l (k .coeffs .now)))
+    (take-cube (k .support .now) (k .max-degree) (short (c .before .before .before .before .before .before .before)))) ∙ c .if3 .taken)))
+    (λ c. let k = c .before .before .before .before .before .before .args in valid-turned (k .bitwidth) (k .coeffs .now) (turned (c .before)))
+    (λ c.
+    let k = c .before .before .before .before .before .before .before .before .before .before .before .before .args in
+    valid-accepted (k .bitwidth) (k .coeffs .now) (ok (c .before .before .before .before .before .before .before))
+    (eq-eqb _ _ (c .before .before .before .before .before .if1 .left ∙ ok
+    (c .before .before .before .before .before .before .before) .counted)) false
+    (ap₂ _&&_ (wide (c .before .before .before)) (sym (c .before .bounded .ensures ∙ ap
+    (λ (l : List ℕ). every (cells l) (isBelow (k .bitwidth) l (k .coeffs .now)))
+    (take-cube (k .support .now) (k .max-degree) (short (c .before .before .before .before .before .before .before)))) ∙ c .if3 .left))))

@@ -1,0 +1,117 @@
+use borrow.Author.Needs.{needs}
+use mathlib.Core.Path.{_∙_, sym, ap, ap₂}
+use mathlib.Core.Bool.{Bool, false, _&&_}
+use Prim.Native.Nat.{ℕ, _≤_}
+use lib.Dec.{eqb}
+use lib.ListN.{length, replicate}
+use borrow.Author.Tests.{eq-eqb, ne-eqb}
+use Rattle.meaning.specs.Boxes.{cells}
+use Rattle.meaning.specs.Replies.{between}
+use Rattle.meaning.specs.Settings.{cube}
+use Rattle.meaning.specs.Calls.{settingsReply}
+use Rattle.answers.specs.Laws.{Settled, Unsettled, settled, unsettled}
+use Rattle.theory.specs.Settings.{passes, take-cube}
+use lib.Seq.{length-take-le}
+use mathlib.Core.List.{List}
+use Rattle.meaning.specs.Values.{bound, boxTotal}
+use Rattle.theory.specs.Ranges.{le-of-between}
+use Rattle.poly.proofs.Replies.{reduce-turned, reduce-length, reduce-accepted}
+use Rattle.meaning.specs.Values.{boxReduced}
+use denote.Ref.{now}
+use Rattle.poly.proofs.reduce.Statement.{statement}
+use Rattle.poly.proofs.reduce.Tie as tie
+use Rattle.poly.proofs.reduce.Reads as reads
+use Rattle.poly.proofs.reduce.Lts as lts
+use Rattle.poly.proofs.cells.reduce_box.Reads as reduce-box-reads
+use Rattle.poly.proofs.settings.Reads as settings-reads
+
+-- src/lib.rt:233:11
+settings-requires : tie.Need-settings-requires
+settings-requires c κs = search needs
+
+-- src/lib.rt:234:25
+enum-known-refusal : tie.Need-enum-known-refusal
+enum-known-refusal c = search needs
+
+-- src/lib.rt:235:23
+enum-known-count : tie.Need-enum-known-count
+enum-known-count c = search needs
+
+-- the settings pass, with as many cells as they say
+ok : (c : tie.After-count) →
+    let k = c .before .before .before .before .before .args in
+    Settled false (k .total) (between 2 64 (k .bitwidth)) (k .support .now) (cube (k .support .now) (k .max-degree)) (c .count .given .0 .0)
+unfolding settingsReply
+ok c =
+    let k = c .before .before .before .before .before .args in
+    settled false (k .total) (between 2 64 (k .bitwidth)) (k .support .now) (cube (k .support .now) (k .max-degree)) (c .before .before .settings .ensures) (c .count .given .1)
+
+-- there are at most twenty variables
+short : (c : tie.After-count) → length (c .before .before .before .before .before .args .support .now) ≤ 20
+short c =
+    let k = c .before .before .before .before .before .args in
+    passes false (k .total) (between 2 64 (k .bitwidth)) (k .support .now) (cube (k .support .now) (k .max-degree)) (ok c .passes) .short
+
+-- the settings are turned down
+turned : (c : tie.After-refusal) →
+    let k = c .before .before .before .before .before .args in
+    Unsettled false (k .total) (between 2 64 (k .bitwidth)) (k .support .now) (cube (k .support .now) (k .max-degree)) (c .refusal .given .0 .0)
+unfolding settingsReply
+turned c =
+    let k = c .before .before .before .before .before .args in
+    unsettled false (k .total) (between 2 64 (k .bitwidth)) (k .support .now) (cube (k .support .now) (k .max-degree)) (c .before .before .settings .ensures) (c .refusal .given .1)
+
+-- src/lib.rt:237:17
+returns : tie.Need-returns
+returns c =
+    let k = c .before .before .before .before .before .before .before .args in
+    reduce-length (k .bitwidth) (k .coeffs .now) (ok (c .before .before)) (ne-eqb _ _ (λ q. c .if1 .taken (q ∙ sym (ok (c .before .before) .counted))))
+
+-- src/lib.rt:240:39
+array-share-prefix-degrees : tie.Need-array-share-prefix-degrees
+array-share-prefix-degrees c = short (c .before .before .before)
+
+-- src/lib.rt:240:39
+slice-aggregate-reduce-box : tie.Need-slice-aggregate-reduce-box
+slice-aggregate-reduce-box c = sym (length-take-le _ _ (short (c .before .before .before .before)))
+
+-- src/lib.rt:240:13
+reduce-box-requires : tie.Need-reduce-box-requires
+reduce-box-requires c κs =
+    let b = c .before .before .before .before in
+    let k = b .before .before .before .before .before .args in
+    let ds = cube (k .support .now) (k .max-degree) in (
+      c .before .before .if1 .left ∙ ok b .counted ∙ ap cells (sym (take-cube (k .support .now) (k .max-degree) (short b))),
+      le-of-between 2 64 (k .bitwidth) (passes false (k .total) (between 2 64 (k .bitwidth)) (k .support .now) ds (ok b .passes) .width),
+    )
+
+-- src/lib.rt:223:1
+returns-2 : tie.Need-returns-2
+returns-2 c = let k = c .before .before .before .before .before .before .args in reduce-turned (k .bitwidth) (k .coeffs .now) (turned (c .before))
+
+-- src/lib.rt:223:1
+same-length : tie.Need-same-length
+same-length c = search needs
+
+-- src/lib.rt:223:1
+returns-3 : tie.Need-returns-3
+returns-3 c =
+    let b = c .before .before .before .before .before .before .before in
+    let k = b .before .before .before .before .before .args in
+    reduce-accepted (k .bitwidth) (k .coeffs .now) (ok b) (eq-eqb _ _ (c .before .before .before .before .before .if1 .left ∙ ok b .counted))
+    (c .before .before .reduce-box .ensures ∙ ap (λ (l : List ℕ). boxReduced (bound (k .bitwidth)) l (k .coeffs .now)) (take-cube (k .support .now) (k .max-degree) (short b)))
+
+pub reduce-spec : {M : Type 1} → statement M
+reduce-spec =
+    tie.close
+    (tie.spec
+    settings-requires
+    enum-known-refusal
+    enum-known-count
+    returns
+    array-share-prefix-degrees
+    slice-aggregate-reduce-box
+    reduce-box-requires
+    returns-2
+    same-length
+    returns-3)

@@ -1,0 +1,250 @@
+// Boxes of coefficients: the check of settings that all calls share, validity, sameness, value at a point, sum.
+ghost use mathlib.Core.Path.{_≡_};
+ghost use Rattle.meaning.specs.Settings.{cube};
+ghost use Rattle.meaning.specs.Calls.{settingsReply, formNumber, validReply, sameReply, sameList, valueReply, sumNumber, sumLeft, inOutNumber, reduceNumber, reduceLeft};
+ghost use Rattle.answers.specs.Said.{said, saidNumber, saidTruth};
+ghost use Rattle.poly.specs.Forms.{cubeForm};
+
+mod cells;
+mod checks;
+
+use answers::Number;
+use answers::Outcome;
+use answers::Refusal;
+use answers::Truth;
+
+// The settings of a call: the number of cells of the box, or the first cause to turn the call down, in the order 1, 2, 3, 4, 5, 7, 8. `strict` says that
+// degree 0 is turned down (4).
+pub fn settings(strict: bool, support: &[u64], total: u32, bitwidth: u32, max_degree: u8) -> Number
+    ensures { λ r. ⌜ said r ≡ settingsReply strict total bitwidth (now (support .entry)) (cube (now (support .entry)) «max_degree») ⌝ }
+{
+    checks::check(
+        strict,
+        support,
+        total,
+        checks::width_fits(bitwidth),
+        max_degree,
+    )
+}
+
+// Whether a box of coefficients is a normal form: the width is 2 to 64 and every coefficient, read whole, is below 2^(width - q), q being the twos in the
+// factorials of its exponents, so that it is 0 where q is the width or more. A bad width is a no. Refused for 1, 2, 5, 7, 8, and 9 where there is not
+// one coefficient for each cell. Nothing is altered.
+pub fn is_valid(coeffs: &[u64], support: &[u64], total: u32, bitwidth: u32, max_degree: u8) -> Truth
+    ensures { λ r. ⌜ saidTruth r ≡ validReply total bitwidth (now (support .entry)) (cube (now (support .entry)) «max_degree») (now (coeffs .entry)) ⌝ }
+{
+    match checks::check(false, support, total, true, max_degree) {
+        Number::Refused(refusal) => Truth::Refused(refusal),
+        Number::Value(count) => {
+            if coeffs.len() as u64 != count {
+                return Truth::Refused(Refusal::WrongLength);
+            }
+            if !checks::width_fits(bitwidth) {
+                return Truth::No;
+            }
+            let degrees = [max_degree; 20];
+            if cells::bounded(coeffs, &degrees[..support.len()], bitwidth) {
+                return Truth::Yes;
+            }
+            Truth::No
+        }
+    }
+}
+
+// The value of a box of coefficients at a point, modulo 2^bitwidth: the sum over the cells of the coefficient times the falling factorials of the
+// coordinates to the cell's exponents. Refused for 1, 2, 3, 5, 7, 8, and 9 where there is not one coefficient for each cell and one coordinate for each
+// support variable. Nothing is altered.
+pub fn value(
+    coeffs: &[u64],
+    support: &[u64],
+    total: u32,
+    bitwidth: u32,
+    max_degree: u8,
+    point: &[u64],
+) -> Number
+    ensures { λ r. ⌜ said r ≡ valueReply total bitwidth (now (support .entry)) (cube (now (support .entry)) «max_degree») (now (coeffs .entry))
+        (now (point .entry)) ⌝ }
+{
+    match settings(false, support, total, bitwidth, max_degree) {
+        Number::Refused(refusal) => Number::Refused(refusal),
+        Number::Value(count) => {
+            if coeffs.len() as u64 != count {
+                return Number::Refused(Refusal::WrongLength);
+            }
+            if point.len() != support.len() {
+                return Number::Refused(Refusal::WrongLength);
+            }
+            let degrees = [max_degree; 20];
+            let whole = cells::box_value(coeffs, &degrees[..support.len()], point);
+            Number::Value(whole & arith::bitmask(bitwidth))
+        }
+    }
+}
+
+// Fills `out` with the sum of two boxes of coefficients of the same settings, cell by cell, each kept to bitwidth - q bits, 0 where q is the width or more.
+// Refused for 1, 2, 3, 5, 7, 8, and 9 where a table does not have an entry for each cell; `out` is then as it was. `a` and `b` are not altered.
+pub fn sum(
+    a: &[u64],
+    b: &[u64],
+    support: &[u64],
+    total: u32,
+    bitwidth: u32,
+    max_degree: u8,
+    out: &mut [u64],
+) -> Outcome
+    ensures says { λ r. ⌜ saidNumber r ≡ sumNumber total bitwidth (now (support .entry)) (cube (now (support .entry)) «max_degree») (now (a .entry))
+        (now (b .entry)) (now (out .entry)) ⌝ }
+    ensures leaves { λ r. ⌜ now (out .exit) ≡ sumLeft total bitwidth (now (support .entry)) (cube (now (support .entry)) «max_degree»)
+        (now (a .entry)) (now (b .entry)) (now (out .entry)) ⌝ }
+{
+    match settings(false, support, total, bitwidth, max_degree) {
+        Number::Refused(refusal) => Outcome::Refused(refusal),
+        Number::Value(count) => {
+            if a.len() as u64 != count {
+                return Outcome::Refused(Refusal::WrongLength);
+            }
+            if b.len() as u64 != count {
+                return Outcome::Refused(Refusal::WrongLength);
+            }
+            if out.len() as u64 != count {
+                return Outcome::Refused(Refusal::WrongLength);
+            }
+            let degrees = [max_degree; 20];
+            cells::box_sum(a, b, &degrees[..support.len()], bitwidth, out);
+            Outcome::Accepted
+        }
+    }
+}
+
+// Whether two lists are equal.
+fn same_list(a: &[u64], b: &[u64]) -> bool
+    ensures { λ r. ⌜ r ≡ sameList (now (a .entry)) (now (b .entry)) ⌝ }
+{
+    if a.len() != b.len() {
+        return false;
+    }
+    let mut i = 0;
+    while i < a.len() {
+        if a[i] != b[i] {
+            return false;
+        }
+        i += 1;
+    }
+    true
+}
+
+// The settings of a form and the length of its coefficients.
+fn check_form(coeffs: &[u64], support: &[u64], total: u32, bitwidth: u32, max_degree: u8) -> Outcome
+    ensures { λ r. ⌜ saidNumber r ≡ formNumber (cubeForm total bitwidth (now (support .entry)) «max_degree» (now (coeffs .entry))) ⌝ }
+{
+    match settings(false, support, total, bitwidth, max_degree) {
+        Number::Refused(refusal) => Outcome::Refused(refusal),
+        Number::Value(count) => {
+            if coeffs.len() as u64 != count {
+                return Outcome::Refused(Refusal::WrongLength);
+            }
+            Outcome::Accepted
+        }
+    }
+}
+
+// Whether two forms are equal in total, width, support in order, degree and coefficients. The first is checked, then the second; each is refused for
+// 1, 2, 3, 5, 7, 8, and 9 where there is not one coefficient for each cell. Nothing is altered.
+pub fn same(
+    coeffs1: &[u64],
+    support1: &[u64],
+    total1: u32,
+    bitwidth1: u32,
+    max_degree1: u8,
+    coeffs2: &[u64],
+    support2: &[u64],
+    total2: u32,
+    bitwidth2: u32,
+    max_degree2: u8,
+) -> Truth
+    ensures { λ r. ⌜ saidTruth r ≡ sameReply (cubeForm total1 bitwidth1 (now (support1 .entry)) «max_degree1» (now (coeffs1 .entry)))
+        (cubeForm total2 bitwidth2 (now (support2 .entry)) «max_degree2» (now (coeffs2 .entry))) ⌝ }
+{
+    match check_form(coeffs1, support1, total1, bitwidth1, max_degree1) {
+        Outcome::Refused(refusal) => {
+            return Truth::Refused(refusal);
+        }
+        Outcome::Accepted => {}
+    }
+    match check_form(coeffs2, support2, total2, bitwidth2, max_degree2) {
+        Outcome::Refused(refusal) => {
+            return Truth::Refused(refusal);
+        }
+        Outcome::Accepted => {}
+    }
+    if total1 != total2 {
+        return Truth::No;
+    }
+    if bitwidth1 != bitwidth2 {
+        return Truth::No;
+    }
+    if !same_list(support1, support2) {
+        return Truth::No;
+    }
+    if max_degree1 != max_degree2 {
+        return Truth::No;
+    }
+    if same_list(coeffs1, coeffs2) {
+        return Truth::Yes;
+    }
+    Truth::No
+}
+
+// The settings of a call that takes one table and fills another, and the lengths of both, which are one entry for each cell. Accepted, or turned down
+// for 1, 2, 3, 4 (where `strict`), 5, 7, 8, 9. Nothing is altered.
+pub fn check_tables(
+    strict: bool,
+    support: &[u64],
+    total: u32,
+    bitwidth: u32,
+    max_degree: u8,
+    given: &[u64],
+    out: &[u64],
+) -> Outcome
+    ensures { λ r. ⌜ saidNumber r ≡ inOutNumber strict total bitwidth (now (support .entry)) (cube (now (support .entry)) «max_degree»)
+        (now (given .entry)) (now (out .entry)) ⌝ }
+{
+    match settings(strict, support, total, bitwidth, max_degree) {
+        Number::Refused(refusal) => Outcome::Refused(refusal),
+        Number::Value(count) => {
+            if given.len() as u64 != count {
+                return Outcome::Refused(Refusal::WrongLength);
+            }
+            if out.len() as u64 != count {
+                return Outcome::Refused(Refusal::WrongLength);
+            }
+            Outcome::Accepted
+        }
+    }
+}
+
+// Takes each coefficient of a box modulo its bound 2^(bitwidth - q), in place: the polynomial in falling factorials keeps its value, modulo 2^bitwidth, at
+// every whole-number point. Refused for 1, 2, 3, 5, 7, 8, 9; the box is then as it was.
+pub fn reduce(
+    coeffs: &mut [u64],
+    support: &[u64],
+    total: u32,
+    bitwidth: u32,
+    max_degree: u8,
+) -> Outcome
+    ensures says { λ r. ⌜ saidNumber r ≡ reduceNumber total bitwidth (now (support .entry)) (cube (now (support .entry)) «max_degree») (now (coeffs .entry)) ⌝ }
+    ensures leaves { λ r. ⌜ now (coeffs .exit) ≡ reduceLeft total bitwidth (now (support .entry)) (cube (now (support .entry)) «max_degree»)
+        (now (coeffs .entry)) ⌝ }
+{
+    match settings(false, support, total, bitwidth, max_degree) {
+        Number::Refused(refusal) => Outcome::Refused(refusal),
+        Number::Value(count) => {
+            if coeffs.len() as u64 != count {
+                return Outcome::Refused(Refusal::WrongLength);
+            }
+            let degrees = [max_degree; 20];
+            cells::reduce_box(coeffs, &degrees[..support.len()], bitwidth);
+            Outcome::Accepted
+        }
+    }
+}

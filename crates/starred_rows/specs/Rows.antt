@@ -1,0 +1,66 @@
+-- The starred rows of document 01, as one list of tests on the definitions of `meaning`, and one theorem: all hold, by computation.
+use Prim.Native.Nat.{ℕ, zero, suc}
+use mathlib.Core.Bool.{Bool, true, false, _&&_}
+use mathlib.Core.List.{List, [], _∷_}
+use lib.Dec.{T, ltb, leb, eqb}
+use lib.ListN.{length, replicate}
+use Rattle.meaning.specs.Tables.{tabulate, at}
+use Rattle.meaning.specs.Sums.{sum}
+use Rattle.meaning.specs.Factorials.{factorial, twosIn, twos, oddPart, capFrom, degreeCap}
+use Rattle.meaning.specs.Inverses.{lifted, inverse}
+use Rattle.meaning.specs.Integers.{residue}
+use Rattle.meaning.specs.Stirling.{stirling1, stirling2, fallingLine, powerLine}
+use Rattle.meaning.specs.Boxes.{cells, digits, cell, along}
+use Rattle.meaning.specs.Values.{weight, oddFactor, bound}
+use Rattle.meaning.specs.Differences.{minus, diff, diffs, newton, differences, grid}
+use Rattle.meaning.specs.Recovery.{difference, divides, coefficient, every, accepts, answer}
+use Rattle.meaning.specs.Conversions.{fallingBox, powerBox, normalBox}
+use Rattle.meaning.specs.Settings.{some, repeated, settingsNumber, callNumber}
+use Rattle.meaning.specs.Calls.{sameList, recoveryNumber, recoveryLeft}
+use Rattle.meaning.specs.Singletons.{singletonAccepts, singletonAnswer, singletonSettings, singletonNumber, singletonLeft}
+
+-- recovery at width w over the first k variables, all of degree d, says the number and leaves the table
+unfoldable pub recovers : ℕ → ℕ → ℕ → List ℕ → ℕ → List ℕ → Bool
+unfolding sameList recoveryNumber recoveryLeft
+recovers w k d v number left =
+    let support = tabulate k (λ i. i) in
+    let out : List ℕ = replicate (length v) 7 in
+    let ds = replicate k d in
+    eqb (recoveryNumber k w support ds v out) number && sameList (recoveryLeft k w support ds v out) left
+
+-- singletons at width w of one variable
+unfoldable pub recovers-line : ℕ → List ℕ → ℕ → List ℕ → Bool
+unfolding sameList singletonNumber singletonLeft
+recovers-line w v number left =
+    let out : List ℕ = replicate (length v) 7 in
+    eqb (singletonNumber 1 w v out) number && sameList (singletonLeft 1 w v out) left
+
+unfoldable pub rows : List Bool
+unfolding recovers recovers-line sameList normalBox powerBox
+rows =
+    -- w 8, d 2, values 1 2 5: coefficients 1 1 1; values 0 0 1: 6
+    recovers 8 1 2 (1 ∷ 2 ∷ 5 ∷ []) 0 (1 ∷ 1 ∷ 1 ∷ [])
+    ∷ recovers 8 1 2 (0 ∷ 0 ∷ 1 ∷ []) 6 (0 ∷ 0 ∷ 0 ∷ [])
+    -- w 8, d 3, 0 0 0 6: 0 0 0 1; w 2, d 4, 0 0 0 0 1: 6; all zero: accepted
+    ∷ recovers 8 1 3 (0 ∷ 0 ∷ 0 ∷ 6 ∷ []) 0 (0 ∷ 0 ∷ 0 ∷ 1 ∷ [])
+    ∷ recovers 2 1 4 (0 ∷ 0 ∷ 0 ∷ 0 ∷ 1 ∷ []) 6 (0 ∷ 0 ∷ 0 ∷ 0 ∷ 0 ∷ [])
+    ∷ recovers 2 1 4 (0 ∷ 0 ∷ 0 ∷ 0 ∷ 0 ∷ []) 0 (0 ∷ 0 ∷ 0 ∷ 0 ∷ 0 ∷ [])
+    -- w 8, two variables, d 1, 0 0 0 1: 1 on xy
+    ∷ recovers 8 2 1 (0 ∷ 0 ∷ 0 ∷ 1 ∷ []) 0 (0 ∷ 0 ∷ 0 ∷ 1 ∷ [])
+    -- 4x² at w 3 normalises to 4x; x⁴ at w 2 normalises to 1 at degrees 1 and 2
+    ∷ sameList (normalBox 3 (2 ∷ []) (0 ∷ 0 ∷ 4 ∷ [])) (0 ∷ 4 ∷ 0 ∷ [])
+    ∷ sameList (normalBox 2 (4 ∷ []) (0 ∷ 0 ∷ 0 ∷ 0 ∷ 1 ∷ [])) (0 ∷ 1 ∷ 1 ∷ 0 ∷ 0 ∷ [])
+    -- x_(3) at w 8 in powers: 2, 253, 1 for x, x², x³
+    ∷ sameList (powerBox 256 (3 ∷ []) (0 ∷ 0 ∷ 0 ∷ 1 ∷ [])) (0 ∷ 2 ∷ 253 ∷ 1 ∷ [])
+    -- singleton w 2, values 3 0 1 2: degree 1, coefficient 1; 0 0 1 0: 6
+    ∷ recovers-line 2 (3 ∷ 0 ∷ 1 ∷ 2 ∷ []) 0 (0 ∷ 1 ∷ 0 ∷ 0 ∷ [])
+    ∷ recovers-line 2 (0 ∷ 0 ∷ 1 ∷ 0 ∷ []) 6 (0 ∷ 0 ∷ 0 ∷ 0 ∷ [])
+    ∷ []
+
+unfoldable pub all : List Bool → Bool
+all [] = true
+all (b ∷ bs) = b && all bs
+
+pub all-rows-hold : T (all rows)
+unfolding all rows recovers recovers-line tabulate sum factorial twosIn twos oddPart capFrom degreeCap lifted inverse residue stirling1 stirling2 fallingLine powerLine cells digits cell along weight oddFactor bound minus diff diffs newton differences grid difference divides coefficient every accepts answer fallingBox powerBox normalBox some repeated settingsNumber callNumber sameList recoveryNumber recoveryLeft singletonAccepts singletonAnswer singletonSettings singletonNumber singletonLeft
+all-rows-hold = tt

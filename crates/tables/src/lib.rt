@@ -1,0 +1,31 @@
+// Whole tables of numbers: copied and set to zero.
+ghost use mathlib.Core.Path.{_≡_};
+ghost use mathlib.Core.Bool.{cond};
+ghost use lib.Dec.{eqb};
+ghost use lib.ListN.{length};
+ghost use Rattle.meaning.specs.Tables.{tabulate};
+
+// Makes `to` equal to `from`, where both have the same length; else leaves it as it is. `from` is not altered.
+pub fn copy(from: &[u64], to: &mut [u64])
+    ensures { λ r. ⌜ now (to .exit) ≡ cond (eqb (length (now (from .entry))) (length (now (to .entry)))) (now (from .entry)) (now (to .entry)) ⌝ }
+{
+    if from.len() != to.len() {
+        return;
+    }
+    let mut i = 0;
+    while i < to.len() {
+        to[i] = from[i];
+        i += 1;
+    }
+}
+
+// Sets every number to 0.
+pub fn clear(table: &mut [u64])
+    ensures { λ r. ⌜ now (table .exit) ≡ tabulate (length (now (table .entry))) (λ n. 0) ⌝ }
+{
+    let mut i = 0;
+    while i < table.len() {
+        table[i] = 0;
+        i += 1;
+    }
+}

@@ -1,0 +1,71 @@
+-- The matrix as it is filled is the system of the fit, and the exponents of the columns are as low as the degrees.
+use mathlib.Core.Path.{_≡_, refl, sym, ap, ap₂, _∙_}
+use mathlib.Core.Bool.{Bool, true, cond}
+use mathlib.Core.List.{List, [], _∷_}
+use Prim.Native.Nat.{ℕ, zero, suc, _+_, _*_, _%_, _^_, _≤_, _<_}
+use native.Mathlib.Nat.{not-suc-le-zero, le-of-suc-le-suc, lt-of-le-of-lt}
+use native.Mathlib.Omega.{arith}
+use borrow.Author.Tests.{lt-ltb}
+use lib.Dec.{ltb}
+use lib.ListN.{length, take, drop, getD}
+use Rattle.meaning.specs.Tables.{at, tabulate}
+use Rattle.meaning.specs.Factorials.{falling}
+use Rattle.meaning.specs.Boxes.{digits, Within, none, next}
+use Rattle.meaning.specs.Values.{product}
+use Rattle.meaning.specs.Elimination.{joined}
+use Rattle.meaning.specs.Fit.{columns, fitSystem}
+use Rattle.theory.specs.Boxes.{length-within}
+use Rattle.theory.specs.Columns.{in-columns-iff, in-getD}
+use Rattle.theory.specs.Tables.{tabulate-cong}
+use Rattle.theory.specs.MatrixTables.{flat, flat-entry, places, at-joined}
+use Rattle.weighted_poly_fit.specs.Powers.{weighed}
+use Rattle.weighted_poly_fit.proofs.Listed.{length-columns-joined}
+use Rattle.weighted_poly_fit.proofs.Coordinates.{part-joined}
+
+within-at : {ds es : List ℕ} → Within ds es → (c : ℕ) → c < length ds → at es c ≤ at ds c
+within-at none c h = absurd (not-suc-le-zero h)
+within-at (next l w) zero h = l
+within-at (next l w) (suc c) h = within-at w c (le-of-suc-le-suc h)
+
+module _ (ds : List ℕ) (most : ℕ) where
+  column-within : (i : ℕ) → i < length (columns ds most) → Within ds (getD (columns ds most) i [])
+  column-within i h = in-columns-iff ds most (getD (columns ds most) i []) .0 (in-getD (columns ds most) i h) .0
+
+  column-length : (i : ℕ) → i < length (columns ds most) → length (getD (columns ds most) i []) ≡ length ds
+  column-length i h = length-within (column-within i h)
+
+  -- every exponent is below a number that is above all degrees
+  pub columns-small : (size : ℕ) → ((j : ℕ) → j < length ds → at ds j < size)
+      → (n : ℕ) → n < length (joined (columns ds most)) → at (joined (columns ds most)) n < size
+  columns-small size f n h =
+      places (length (columns ds most)) (length ds) (λ m. at (joined (columns ds most)) m < size)
+      (λ i c p q.
+      rw (at-joined (length ds) (columns ds most) column-length i c p q) (lt-of-le-of-lt (within-at (column-within i p) c q) (f c q)))
+      n (rw (length-columns-joined ds most) at h)
+
+  module _ (w : ℕ) (gs weights targets : List ℕ) (same : length gs ≡ length ds) where
+    -- an entry is that of the system
+    pub weighed-system : (i c : ℕ) → c < length (columns ds most)
+        → weighed w gs (joined (columns ds most)) weights i c ≡ fitSystem w gs (columns ds most) weights targets i c
+    unfolding weighed fitSystem
+    weighed-system i c h =
+        ap (λ (es : List ℕ). (at weights i * product falling (length gs) (digits gs i) es) % 2 ^ w)
+        (ap (λ (k : ℕ). take k (drop (c * k) (joined (columns ds most)))) same ∙ part-joined (length ds) (columns ds most) column-length c h)
+        ∙ ap
+        (λ (b : Bool). cond b (at weights i * product falling (length gs) (digits gs i) (getD (columns ds most) c [])) (at targets i) % 2 ^ w)
+        (sym (lt-ltb c (length (columns ds most)) h))
+
+    -- and the matrix is its matrix
+    pub matrix-system : (rows : ℕ)
+        → tabulate (rows * length (columns ds most)) (flat (length (columns ds most)) (weighed w gs (joined (columns ds most)) weights))
+        ≡ tabulate (rows * length (columns ds most)) (flat (length (columns ds most)) (fitSystem w gs (columns ds most) weights targets))
+    matrix-system rows =
+        tabulate-cong (rows * length (columns ds most)) _ _
+        (places rows (length (columns ds most))
+        (λ n.
+        flat (length (columns ds most)) (weighed w gs (joined (columns ds most)) weights) n
+        ≡ flat (length (columns ds most)) (fitSystem w gs (columns ds most) weights targets) n)
+        (λ i c p q.
+        flat-entry (length (columns ds most)) (weighed w gs (joined (columns ds most)) weights) i c q
+        ∙ weighed-system i c q
+        ∙ sym (flat-entry (length (columns ds most)) (fitSystem w gs (columns ds most) weights targets) i c q)))

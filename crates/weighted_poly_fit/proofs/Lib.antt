@@ -1,0 +1,14 @@
+pub mod RowLaws
+pub mod ClearLaws
+pub mod ColumnLaws
+pub mod Pasted
+pub mod Listed
+pub mod ColumnCount
+pub mod Steps
+pub mod ByDegrees
+pub mod Entries
+pub mod Coordinates
+pub mod MatrixRows
+pub mod FitMatrix
+pub mod SubstitutionLaws
+pub mod SolverLaws

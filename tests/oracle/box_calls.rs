@@ -1,0 +1,427 @@
+//! is_valid, sameness, value and sum. The Rust has is_valid alone; the others are document 01's
+//! definitions, computed here cell by cell.
+
+use crate::boxes::{
+    coefficients, every_set_of_causes, filled, large_box, left, length, lengths, lent, low_bits,
+    most_cells, random_box, settings, spoil, twos_of_cells, NUMBERS,
+};
+use crate::definitions::{falling, value};
+use crate::group::{Answer, Case, Group, Lent, Source, UNSET};
+use crate::library_boxes::poly as ours;
+use crate::random::Random;
+use crate::reference as rust;
+use crate::settings::Settings;
+
+/// Each group with whether the library has its call.
+pub const GROUPS: [(&Group, bool); 4] = [
+    (&IS_VALID, cfg!(cobra_box_is_valid)),
+    (&SAME, cfg!(cobra_box_same)),
+    (&VALUE, cfg!(cobra_box_value)),
+    (&SUM, cfg!(cobra_box_sum)),
+];
+
+/// Without degree 0, which recovery alone refuses.
+const PLAIN: [u32; 7] = [1, 2, 3, 5, 7, 8, 9];
+/// is_valid says no to a bad width and goes on.
+const WIDTHLESS: [u32; 6] = [1, 2, 5, 7, 8, 9];
+
+/// A case that all calls of one box accept, with causes' room: three variables in mixed order.
+fn accepted(width: u64, tables: usize) -> Case {
+    let mut c = Case::of([5, width, 2, 0, 0]).with(vec![3, 0, 2]);
+    (0..tables).for_each(|i| c.tables.push((i as u64..27).collect()));
+    c
+}
+
+/// Boxes above the limit with tables of just their length.
+fn above_the_limit(tables: usize, give: &mut dyn FnMut(Case)) {
+    for (k, degree, cells) in [(3, 40, 68_921), (17, 1, 131_072), (2, 255, 65_536)] {
+        let mut c = Case::of([20, 8, degree, 0, 0]).with((0..k).collect());
+        (0..tables).for_each(|_| c.tables.push(vec![1; cells]));
+        give(c);
+    }
+}
+
+/// Small boxes, and large ones now and then.
+fn any_box(r: &mut Random) -> Case {
+    if r.one_in(400) {
+        large_box(r)
+    } else {
+        let (least_degree, most) = (r.pick(&[0, 1, 2, 2]), most_cells(r));
+        random_box(least_degree, most, r)
+    }
+}
+
+fn with_value(answer: u32, value: u64, cells: Vec<u64>, support: Vec<u64>) -> Answer {
+    let said = Answer::number(answer).and_value(value);
+    said.words("coefficients", cells).words("support", support)
+}
+
+const IS_VALID: Group = Group {
+    name: "box_is_valid",
+    names: &[NUMBERS[0], NUMBERS[1], NUMBERS[2], NUMBERS[3], NUMBERS[4], "support", "coefficients"],
+    small: |give| {
+        for width in [8, 0, 1, 65, 4_294_967_295] {
+            every_set_of_causes(&accepted(width, 1), &WIDTHLESS, valid_number, give);
+        }
+        above_the_limit(1, give);
+        // each cell of some boxes at its bound, below it and above it
+        for width in (0..=70).chain([255, 4_294_967_295]) {
+            for (k, degree) in [(1u64, 66), (2, 4), (3, 2)] {
+                let base = Case::of([20, width, degree, 0, 0]).with((0..k).rev().collect());
+                let twos = twos_of_cells(degree as u8, k as usize);
+                for (cell, &q) in twos.iter().enumerate() {
+                    let bound = low_bits(width.saturating_sub(u64::from(q)));
+                    for coefficient in [bound.wrapping_sub(1), bound, bound.wrapping_add(1)] {
+                        let mut cells = vec![0; twos.len()];
+                        cells[cell] = coefficient;
+                        give(base.clone().with(cells));
+                    }
+                }
+            }
+        }
+    },
+    random: Some(|r| {
+        let mut c = any_box(r);
+        let s = settings(&c);
+        let mut cells: Vec<u64> = twos_of_cells(s.degree, s.support.len())
+            .iter()
+            .map(|&q| low_bits(c.u64(1).saturating_sub(u64::from(q))))
+            .map(|bound| if r.one_in(3) { bound } else { r.word() & bound })
+            .collect();
+        if r.one_in(2) {
+            let cell = r.below(cells.len() as u64) as usize;
+            cells[cell] = if r.one_in(2) { r.word() } else { cells[cell].wrapping_add(1) };
+        }
+        c.tables.push(cells);
+        match r.below(8) {
+            0 => spoil(&mut c, &WIDTHLESS, r),
+            1 => spoil(&mut c, &[3], r),
+            2 => spoil(&mut c, &PLAIN, r),
+            _ => {}
+        }
+        c
+    }),
+    cost: 1,
+    judged: |c| {
+        let (s, cells) = (settings(c), one_table(c));
+        let (mut cells, mut support, mut value) = (Lent::new(&cells), Lent::new(s.support), UNSET);
+        let (n, k) = (cells.len(), support.len());
+        let (at, on) = (cells.at(), support.at());
+        let answer = unsafe {
+            ours::cobra_box_is_valid(at, n, on, k, s.total, s.width, s.degree, &mut value)
+        };
+        let outside = cells.outside() + support.outside();
+        with_value(answer, value, cells.content(), support.content()).outside(outside)
+    },
+    expected: |c| {
+        let (s, cells) = (settings(c), one_table(c));
+        let number = valid_number(c);
+        let (from, value) = match number {
+            0 => (Source::Rust, u64::from(rust::is_valid(&cells, &s))),
+            _ => (Source::Document, 0),
+        };
+        (from, with_value(number, value, cells, s.support.to_vec()).outside(0))
+    },
+};
+
+fn one_table(c: &Case) -> Vec<u64> {
+    let [cells] = lengths(c);
+    lent(&c.tables[1], cells)
+}
+
+/// The refusal, where any width passes.
+fn valid_number(c: &Case) -> u32 {
+    let s = Settings { width: 8, ..settings(c) };
+    s.refusal(false, &lengths::<1>(c)).unwrap_or(0)
+}
+
+const VALUE: Group = Group {
+    name: "box_value",
+    names: &[
+        NUMBERS[0],
+        NUMBERS[1],
+        NUMBERS[2],
+        NUMBERS[3],
+        NUMBERS[4],
+        "support",
+        "coefficients",
+        "point",
+    ],
+    small: |give| {
+        let with_point = |mut c: Case| {
+            c.tables[2] = vec![1, 2, 3];
+            c
+        };
+        every_set_of_causes(&with_point(accepted(8, 2)), &PLAIN, value_number, give);
+        above_the_limit(2, &mut |c| give(with_point(c)));
+        // one coefficient at a time: each product of falling factorials by itself
+        for width in [2, 3, 8, 33, 63, 64] {
+            for x in (0..=9).chain([255, 256, 1 << 63, u64::MAX - 1, u64::MAX]) {
+                for e in 0..=9 {
+                    let mut cells = vec![0; 10];
+                    cells[e] = u64::MAX;
+                    let line = Case::of([1, width, 9, 0, 0]).with(vec![0]);
+                    give(line.with(cells.clone()).with(vec![x]));
+                }
+            }
+        }
+    },
+    random: Some(|r| {
+        let mut c = any_box(r);
+        c.tables.push(coefficients(&c, r));
+        let k = c.tables[0].len() as u64;
+        let small = r.one_in(3);
+        let coordinate = |r: &mut Random| if small { r.below(300) } else { r.word() };
+        c.tables.push((0..k).map(|_| coordinate(r)).collect());
+        if r.one_in(8) {
+            spoil(&mut c, &PLAIN, r);
+        }
+        c
+    }),
+    cost: 1,
+    judged: |c| {
+        let (s, (cells, point)) = (settings(c), value_tables(c));
+        let (mut cells, mut support, mut point, mut value) =
+            (Lent::new(&cells), Lent::new(s.support), Lent::new(&point), UNSET);
+        let (n, k, m) = (cells.len(), support.len(), point.len());
+        let (cell, on, at) = (cells.at(), support.at(), point.at());
+        let answer = unsafe {
+            ours::cobra_box_value(cell, n, on, k, s.total, s.width, s.degree, at, m, &mut value)
+        };
+        let outside = cells.outside() + support.outside() + point.outside();
+        let said = with_value(answer, value, cells.content(), support.content());
+        said.words("point", point.content()).outside(outside)
+    },
+    expected: |c| {
+        let (s, (cells, point)) = (settings(c), value_tables(c));
+        let number = value_number(c);
+        let value = if number == 0 { value(&cells, &s, &point, falling) } else { 0 };
+        let said = with_value(number, value, cells, s.support.to_vec());
+        (Source::Document, said.words("point", point).outside(0))
+    },
+};
+
+fn value_tables(c: &Case) -> (Vec<u64>, Vec<u64>) {
+    let ([cells, _], coordinates) = (lengths::<2>(c), settings(c).support.len());
+    let point = length(c.u64(3), 1, 2, Some(coordinates as u64), 0);
+    (lent(&c.tables[1], cells), lent(&c.tables[2], point))
+}
+
+fn value_number(c: &Case) -> u32 {
+    let (s, (cells, point)) = (settings(c), value_tables(c));
+    let lengths = [(cells.len(), s.cells()), (point.len(), Some(s.support.len() as u64))];
+    s.guard(false).or_else(|| s.added(s.cells(), &lengths)).unwrap_or(0)
+}
+
+const SUM: Group = Group {
+    name: "box_sum",
+    names: &[NUMBERS[0], NUMBERS[1], NUMBERS[2], NUMBERS[3], NUMBERS[4], "support", "a", "b"],
+    small: |give| {
+        every_set_of_causes(&accepted(8, 2), &PLAIN, sum_number, give);
+        above_the_limit(2, give);
+        // sums that carry out of each cell's bits
+        for width in 2..=64 {
+            for (k, degree) in [(1u64, 66), (2, 4), (4, 1)] {
+                let base = Case::of([20, width, degree, 0, 7]).with((0..k).rev().collect());
+                let cells = twos_of_cells(degree as u8, k as usize).len();
+                give(base.clone().with(vec![u64::MAX; cells]).with(vec![1; cells]));
+                give(base.with(vec![u64::MAX; cells]).with(vec![u64::MAX; cells]));
+            }
+        }
+    },
+    random: Some(|r| {
+        let mut c = any_box(r);
+        c.tables.push(coefficients(&c, r));
+        c.tables.push(coefficients(&c, r));
+        if r.one_in(8) {
+            spoil(&mut c, &PLAIN, r);
+        }
+        c
+    }),
+    cost: 1,
+    judged: |c| {
+        let (s, [a, b, out]) = (settings(c), sum_tables(c));
+        let (mut a, mut b, mut out) = (Lent::new(&a), Lent::new(&b), Lent::new(&out));
+        let mut support = Lent::new(s.support);
+        let (an, bn, on, k) = (a.len(), b.len(), out.len(), support.len());
+        let (total, width, degree) = (s.total, s.width, s.degree);
+        let (a_at, b_at, out_at, at) = (a.at(), b.at(), out.at(), support.at());
+        let answer = unsafe {
+            ours::cobra_box_sum(a_at, an, b_at, bn, at, k, total, width, degree, out_at, on)
+        };
+        let outside = a.outside() + b.outside() + out.outside() + support.outside();
+        let said = left(answer, out.content(), a.content(), support.content());
+        said.words("second input", b.content()).outside(outside)
+    },
+    expected: |c| {
+        let (s, [a, b, mut out]) = (settings(c), sum_tables(c));
+        let number = sum_number(c);
+        if number == 0 {
+            let kept = |q: u32| low_bits(u64::from(s.width.saturating_sub(q)));
+            let twos = twos_of_cells(s.degree, s.support.len());
+            let sum = |i: usize| a[i].wrapping_add(b[i]) & kept(twos[i]);
+            out = (0..out.len()).map(sum).collect();
+        }
+        let said = left(number, out, a, s.support.to_vec());
+        (Source::Document, said.words("second input", b).outside(0))
+    },
+};
+
+fn sum_tables(c: &Case) -> [Vec<u64>; 3] {
+    let [a, b, out] = lengths(c);
+    [lent(&c.tables[1], a), lent(&c.tables[2], b), filled(c.u64(4), out)]
+}
+
+fn sum_number(c: &Case) -> u32 {
+    settings(c).refusal(false, &lengths::<3>(c)).unwrap_or(0)
+}
+
+const SAME: Group = Group {
+    name: "box_same",
+    names: &[
+        "a_total",
+        "a_width",
+        "a_degree",
+        "a_wrong_length",
+        "b_total",
+        "b_width",
+        "b_degree",
+        "b_wrong_length",
+        "a_support",
+        "a",
+        "b_support",
+        "b",
+    ],
+    small: |give| {
+        let base = accepted(8, 1);
+        let mut spoilt = Vec::new();
+        every_set_of_causes(&base, &PLAIN, form_number, &mut |c| spoilt.push(c));
+        let pairs = |c: &Case| c.u64(3) < 2 && c.tables[0].len() < 4;
+        for c in &spoilt {
+            give(two_forms(c, &base));
+            give(two_forms(&base, c));
+        }
+        // a cause in each form: the first form's wins
+        for a in PLAIN.iter().enumerate().map(|(i, _)| &spoilt[1 << i]) {
+            spoilt.iter().filter(|b| pairs(b)).for_each(|b| give(two_forms(a, b)));
+        }
+        above_the_limit(1, &mut |c| give(two_forms(&c, &c)));
+        // the same cells under other settings
+        let forms = [
+            (4, 8, 3, vec![0]),
+            (4, 8, 3, vec![1]),
+            (3, 8, 3, vec![0]),
+            (4, 9, 3, vec![0]),
+            (4, 8, 1, vec![0, 1]),
+            (4, 8, 1, vec![1, 0]),
+            (4, 8, 0, vec![0]),
+            (4, 8, 0, vec![0, 1, 2]),
+            (4, 8, 2, vec![0]),
+        ];
+        for a in &forms {
+            for b in &forms {
+                let form = |(total, width, degree, support): &(u64, u64, u64, Vec<u64>)| {
+                    let c = Case::of([*total, *width, *degree, 0, 0]);
+                    c.with(support.clone()).with(vec![])
+                };
+                give(two_forms(&form(a), &form(b)));
+            }
+        }
+    },
+    random: Some(|r| {
+        let mut a = any_box(r);
+        a.tables.push(coefficients(&a, r));
+        let mut b = a.clone();
+        for _ in 0..r.below(3) {
+            change(&mut b, r);
+        }
+        match r.below(12) {
+            0 => spoil(&mut a, &PLAIN, r),
+            1 => spoil(&mut b, &PLAIN, r),
+            2 => {
+                spoil(&mut a, &PLAIN, r);
+                spoil(&mut b, &PLAIN, r);
+            }
+            _ => {}
+        }
+        two_forms(&a, &b)
+    }),
+    cost: 1,
+    judged: |c| {
+        let (a, b) = (form(c, 0), form(c, 1));
+        let (s, t) = (settings(&a), settings(&b));
+        let (mut cells, mut others) = (Lent::new(&one_table(&a)), Lent::new(&one_table(&b)));
+        let (mut support, mut other) = (Lent::new(s.support), Lent::new(t.support));
+        let (an, bn, ak, bk) = (cells.len(), others.len(), support.len(), other.len());
+        let (a_at, b_at, as_at, bs_at) = (cells.at(), others.at(), support.at(), other.at());
+        let mut value = UNSET;
+        let answer = unsafe {
+            ours::cobra_box_same(
+                a_at, an, as_at, ak, s.total, s.width, s.degree, b_at, bn, bs_at, bk, t.total,
+                t.width, t.degree, &mut value,
+            )
+        };
+        let outside = cells.outside() + others.outside() + support.outside() + other.outside();
+        let (first, second) = (cells.content(), others.content());
+        same_left(answer, value, first, support.content(), second, other.content()).outside(outside)
+    },
+    expected: |c| {
+        let (a, b) = (form(c, 0), form(c, 1));
+        let (first, second) = (form_number(&a), form_number(&b));
+        let number = if first == 0 { second } else { first };
+        let (cells, others) = (one_table(&a), one_table(&b));
+        let same = a.numbers[..3] == b.numbers[..3] && a.tables[0] == b.tables[0];
+        let value = u64::from(number == 0 && same && cells == others);
+        let (support, other) = (a.tables[0].clone(), b.tables[0].clone());
+        let said = same_left(number, value, cells, support, others, other);
+        (Source::Document, said.outside(0))
+    },
+};
+
+fn same_left(
+    answer: u32,
+    value: u64,
+    a: Vec<u64>,
+    a_support: Vec<u64>,
+    b: Vec<u64>,
+    b_support: Vec<u64>,
+) -> Answer {
+    let first =
+        Answer::number(answer).and_value(value).words("a", a).words("a's support", a_support);
+    first.words("b", b).words("b's support", b_support)
+}
+
+/// The case of sameness from the cases of two forms, and each of them back.
+fn two_forms(a: &Case, b: &Case) -> Case {
+    Case {
+        numbers: [&a.numbers[..4], &b.numbers[..4]].concat(),
+        tables: [&a.tables[..2], &b.tables[..2]].concat(),
+    }
+}
+
+fn form(c: &Case, which: usize) -> Case {
+    let numbers = [&c.numbers[4 * which..4 * which + 4], &[0]].concat();
+    Case { numbers, tables: c.tables[2 * which..2 * which + 2].to_vec() }
+}
+
+fn form_number(c: &Case) -> u32 {
+    settings(c).refusal(false, &lengths::<1>(c)).unwrap_or(0)
+}
+
+/// Changes one thing that sameness looks at, mostly so that the settings still pass.
+fn change(c: &mut Case, r: &mut Random) {
+    match r.below(6) {
+        0 => c.numbers[0] = (c.u64(0) + 1).min(20),
+        1 => c.numbers[1] = r.between(2, 64),
+        2 => c.numbers[2] = c.u64(2).saturating_sub(1),
+        3 => {
+            let k = c.tables[0].len() as u64;
+            let (i, j) = (r.below(k) as usize, r.below(k) as usize);
+            c.tables[0].swap(i, j);
+        }
+        _ => {
+            let cell = r.below(c.tables[1].len() as u64) as usize;
+            c.tables[1][cell] ^= 1 << r.below(64);
+        }
+    }
+}
