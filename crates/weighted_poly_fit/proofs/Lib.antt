@@ -1,6 +1,3 @@
-pub mod RowLaws
-pub mod ClearLaws
-pub mod ColumnLaws
 pub mod Pasted
 pub mod Listed
 pub mod ColumnCount
@@ -10,5 +7,3 @@ pub mod Entries
 pub mod Coordinates
 pub mod MatrixRows
 pub mod FitMatrix
-pub mod SubstitutionLaws
-pub mod SolverLaws

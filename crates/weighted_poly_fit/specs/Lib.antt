@@ -1,5 +1,2 @@
-pub mod Rows
-pub mod Shown
 pub mod Listing
 pub mod Powers
-pub mod Solved

@@ -1,7 +1,3 @@
-// The weighted fit and its solvers.
+// The weighted fit: its columns and its matrix.
 mod columns;
-mod elimination;
 mod matrix;
-mod rows;
-pub mod solver;
-mod substitution;

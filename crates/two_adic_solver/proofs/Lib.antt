@@ -1,0 +1,5 @@
+pub mod RowLaws
+pub mod ClearLaws
+pub mod ColumnLaws
+pub mod SubstitutionLaws
+pub mod SolverLaws

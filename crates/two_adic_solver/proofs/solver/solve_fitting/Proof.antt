@@ -1,0 +1,12 @@
+use borrow.Author.Needs.{needs}
+use native.Mathlib.Omega.{arith}
+use Rattle.two_adic_solver.proofs.solver.solve_fitting.Statement.{statement}
+use Rattle.two_adic_solver.proofs.solver.solve_fitting.Tie as tie
+
+pub solve-fitting-spec : {M : Type 1} → statement M
+solve-fitting-spec =
+    tie.close
+    (tie.spec
+    (λ c κs. search needs) (λ c κs. search needs) (λ c. search needs) (λ c. search needs)
+    (λ c κs. let p = c .before .before .before .before .before .before .before .before .before .before .pre in ((p .0 .0, p .0 .1, p .0 .2, p .0 .3), (omega (arith, p .1 .0), omega (arith, p .0 .2), p .1 .1, λ i l. c .before .before .before .before .before .before .no-marks .ensures i)))
+    (λ c. search needs) (λ c. search needs) (λ c. search needs) (λ c. search needs))

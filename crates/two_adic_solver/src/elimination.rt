@@ -1,0 +1,140 @@
+// The elimination on a matrix and a right side: rows cleared by a pivot row, column after column.
+ghost use mathlib.Core.Path.{_≡_};
+ghost use mathlib.Core.Bool.{true, false};
+ghost use Prim.Native.Nat.{ℕ, _+_, _*_, _-_, _/_, _^_, _≤_, _<_, suc};
+ghost use lib.ListN.{length, getD};
+ghost use Rattle.meaning.specs.Tables.{at};
+ghost use Rattle.meaning.specs.Factorials.{twosIn};
+ghost use Rattle.meaning.specs.Inverses.{inverse};
+ghost use Rattle.meaning.specs.Elimination.{State, step, forward};
+ghost use Rattle.theory.specs.ShownStates.{Shows};
+ghost use Rattle.two_adic_solver.specs.Shown.{clearedRow, Clearing, Shown};
+use crate::rows;
+
+// Clears column `column` in one row, unless it is used: the pivot row, whose entry there has the given twos and the inverse v of its odd part, is
+// subtracted as often as it takes, from that column on and in the right side.
+fn clear_row(
+    matrix: &mut [u64],
+    right: &mut [u64],
+    used: bool,
+    columns: usize,
+    column: usize,
+    pivot: usize,
+    row: usize,
+    twos: u32,
+    v: u64,
+    bitwidth: u32,
+)
+    requires { ⌜ (length (now matrix) ≡ length (now right) * columns) × (length (now matrix) ≤ 65536) × (column < columns) × (pivot < length (now right)) × (row < length (now right)) ⌝ }
+    requires { ⌜ (twos < bitwidth) × (bitwidth ≤ 64) ⌝ }
+    ensures { λ r. ⌜ ((s : State) → Shows (length (now (right .entry))) columns s (now (matrix .entry)) (now (right .entry))
+        → v ≡ inverse (s .entry pivot column / 2 ^ twos) (bitwidth - twos)
+        → ((j : ℕ) → s .entry row j < 2 ^ bitwidth) → ((j : ℕ) → j < column → s .entry pivot j ≡ 0)
+        → Shows (length (now (right .entry))) columns (clearedRow used bitwidth twos pivot column row s) (now (matrix .exit)) (now (right .exit))) ⌝ }
+{
+    if used {
+        return;
+    }
+    let target = row * columns + column;
+    let entry = matrix[target];
+    if entry == 0 {
+        return;
+    }
+    let q = rows::multiplier(entry, twos, v, bitwidth);
+    rows::subtract_row(
+        matrix,
+        pivot * columns + column,
+        target,
+        columns - column,
+        q,
+        bitwidth,
+    );
+    right[row] = rows::less(right[row], q, right[pivot], bitwidth);
+}
+
+// Clears a column: its pivot row, which is marked as used, is subtracted from the rows that are not.
+fn clear_column(
+    matrix: &mut [u64],
+    right: &mut [u64],
+    used: &[bool],
+    columns: usize,
+    column: usize,
+    pivot: usize,
+    bitwidth: u32,
+)
+    requires { ⌜ (length (now matrix) ≡ length (now right) * columns) × (length (now matrix) ≤ 65536) × (column < columns) × (pivot < length (now right)) ⌝ }
+    requires { ⌜ (length (now right) ≤ length (now used)) × (twosIn bitwidth (at (now matrix) (pivot * columns + column)) < bitwidth) × (bitwidth ≤ 64) ⌝ }
+    ensures { λ r. ⌜ ((s : State) → Shows (length (now (right .entry))) columns s (now (matrix .entry)) (now (right .entry))
+        → Clearing bitwidth (length (now (right .entry))) column pivot (now (used .entry)) s
+        → Shows (length (now (right .entry))) columns (step bitwidth (length (now (right .entry))) s column) (now (matrix .exit)) (now (right .exit))) ⌝ }
+{
+    let entry = matrix[pivot * columns + column];
+    let twos = rows::height(entry, false, bitwidth);
+    let v = rows::pivot_inverse(entry, twos, bitwidth);
+    let mut row = 0;
+    while row < right.len() {
+        clear_row(
+            matrix,
+            right,
+            used[row],
+            columns,
+            column,
+            pivot,
+            row,
+            twos,
+            v,
+            bitwidth,
+        );
+        row += 1;
+    }
+}
+
+// One column: its pivot row is found and noted, marked as used, and subtracted from the rows that are not used. Without a pivot the number of rows is
+// noted.
+fn eliminate_column(
+    matrix: &mut [u64],
+    right: &mut [u64],
+    used: &mut [bool],
+    pivots: &mut [usize],
+    columns: usize,
+    column: usize,
+    bitwidth: u32,
+)
+    requires { ⌜ (length (now matrix) ≡ length (now right) * columns) × (length (now matrix) ≤ 65536) × (column < columns) × (columns ≤ 65536) ⌝ }
+    requires { ⌜ (length (now right) ≤ length (now used)) × (columns ≤ length (now pivots)) × (bitwidth ≤ 64) ⌝ }
+    ensures { λ r. ⌜ ((s : State)
+        → Shown bitwidth (length (now (right .entry))) columns s column (now (matrix .entry)) (now (right .entry)) (now (used .entry)) (now (pivots .entry))
+        → Shown bitwidth (length (now (right .entry))) columns (step bitwidth (length (now (right .entry))) s column) (column + 1)
+        (now (matrix .exit)) (now (right .exit)) (now (used .exit)) (now (pivots .exit))) ⌝ }
+{
+    let pivot = rows::find_pivot(matrix, used, right.len(), columns, column, bitwidth);
+    pivots[column] = pivot;
+    if pivot == right.len() {
+        return;
+    }
+    used[pivot] = true;
+    clear_column(matrix, right, used, columns, column, pivot, bitwidth);
+}
+
+// All columns, one after the other.
+pub(crate) fn eliminate(
+    matrix: &mut [u64],
+    right: &mut [u64],
+    used: &mut [bool],
+    pivots: &mut [usize],
+    columns: usize,
+    bitwidth: u32,
+)
+    requires { ⌜ (length (now matrix) ≡ length (now right) * columns) × (length (now matrix) ≤ 65536) × (columns ≤ 65536) ⌝ }
+    requires { ⌜ (length (now right) ≤ length (now used)) × (columns ≤ length (now pivots)) × (bitwidth ≤ 64) ⌝ }
+    ensures { λ r. ⌜ ((s : State)
+        → Shown bitwidth (length (now (right .entry))) columns s 0 (now (matrix .entry)) (now (right .entry)) (now (used .entry)) (now (pivots .entry))
+        → Shown bitwidth (length (now (right .entry))) columns (forward bitwidth (length (now (right .entry))) s columns) columns
+        (now (matrix .exit)) (now (right .exit)) (now (used .exit)) (now (pivots .exit))) ⌝ }
+{
+    let mut column = 0;
+    while column < columns {
+        eliminate_column(matrix, right, used, pivots, columns, column, bitwidth);
+        column += 1;
+    }
+}

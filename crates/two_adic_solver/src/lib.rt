@@ -1,0 +1,5 @@
+// Linear systems modulo 2^w by elimination: the solver on lent tables, and the four by four solver on arrays by value.
+mod elimination;
+mod rows;
+pub mod solver;
+mod substitution;

@@ -1,0 +1,169 @@
+// The rows of a matrix modulo 2^w: numbers reduced, a column's pivot found, a multiple of the pivot row subtracted.
+ghost use mathlib.Core.Path.{_≡_};
+ghost use mathlib.Core.Bool.{cond};
+ghost use Prim.Native.Nat.{_+_, _*_, _-_, _/_, _%_, _^_, _≤_, _<_};
+ghost use lib.ListN.{length};
+ghost use lib.Dec.{ltb};
+ghost use Rattle.meaning.specs.Tables.{tabulate, at};
+ghost use Rattle.meaning.specs.Factorials.{twosIn};
+ghost use Rattle.meaning.specs.Inverses.{inverse};
+ghost use Rattle.meaning.specs.Differences.{minus};
+ghost use Rattle.meaning.specs.Elimination.{lowest};
+ghost use Rattle.two_adic_solver.specs.Rows.{Subtracted, heightOf};
+use answers::Number;
+
+// Every number modulo 2^bitwidth.
+pub(crate) fn reduce(table: &mut [u64], bitwidth: u32)
+    requires { ⌜ bitwidth ≤ 64 ⌝ }
+    ensures { λ r. ⌜ now (table .exit) ≡ tabulate (length (now (table .entry))) (λ n. at (now (table .entry)) n % 2 ^ bitwidth) ⌝ }
+{
+    let mask = arith::bitmask(bitwidth);
+    let mut i = 0;
+    while i < table.len() {
+        table[i] = table[i] & mask;
+        i += 1;
+    }
+}
+
+// The twos of an entry, cut at the width; the width where the row is used.
+pub(crate) fn height(entry: u64, used: bool, bitwidth: u32) -> u32
+    requires { ⌜ bitwidth ≤ 64 ⌝ }
+    ensures { λ r. ⌜ r ≡ cond used bitwidth (twosIn bitwidth entry) ⌝ }
+{
+    if used {
+        return bitwidth;
+    }
+    let zeros = u64::trailing_zeros(entry);
+    if zeros < bitwidth { zeros } else { bitwidth }
+}
+
+// The row, if its height is below the least so far, else the row so far.
+fn lower_row(here: u32, least: u32, row: usize, so_far: usize) -> usize
+    ensures { λ r. ⌜ r ≡ cond (ltb here least) row «so_far» ⌝ }
+{
+    if here < least { row } else { so_far }
+}
+
+// The lesser height.
+fn lower_height(here: u32, least: u32) -> u32
+    ensures { λ r. ⌜ r ≡ cond (ltb here least) here least ⌝ }
+{
+    if here < least { here } else { least }
+}
+
+// The row of a column's pivot: the least twos among the unused rows whose entry is not 0, the first on a tie; `rows` where there is none.
+pub(crate) fn find_pivot(
+    matrix: &[u64],
+    used: &[bool],
+    rows: usize,
+    columns: usize,
+    column: usize,
+    bitwidth: u32,
+) -> usize
+    requires { ⌜ (length (now matrix) ≡ rows * columns) × (length (now matrix) ≤ 65536) × (rows ≤ length (now used)) ⌝ }
+    requires { ⌜ (column < columns) × (columns ≤ 65536) × (bitwidth ≤ 64) ⌝ }
+    ensures { λ r. ⌜ r ≡ lowest rows bitwidth (heightOf bitwidth columns (now (matrix .entry)) (now (used .entry)) column) rows .row ⌝ }
+{
+    let mut row = rows;
+    let mut least = bitwidth;
+    let mut at = column;
+    let mut i = 0;
+    while i < rows {
+        let here = height(matrix[at], used[i], bitwidth);
+        row = lower_row(here, least, i, row);
+        least = lower_height(here, least);
+        at += columns;
+        i += 1;
+    }
+    row
+}
+
+// The inverse of the odd part of a pivot that has the given twos.
+pub(crate) fn pivot_inverse(pivot: u64, twos: u32, bitwidth: u32) -> u64
+    requires { ⌜ (twos < bitwidth) × (bitwidth ≤ 64) × ((pivot / 2 ^ twos) % 2 ≡ 1) ⌝ }
+    ensures { λ r. ⌜ r ≡ inverse (pivot / 2 ^ twos) (bitwidth - twos) ⌝ }
+{
+    let Number::Value(v) = math_utils::mod_inverse_odd(pivot >> twos, bitwidth - twos) else {
+        return 0;
+    };
+    v
+}
+
+// How often a pivot row is subtracted to clear an entry: the entry over 2^twos times the inverse, modulo 2^(bitwidth - twos).
+pub(crate) fn multiplier(entry: u64, twos: u32, v: u64, bitwidth: u32) -> u64
+    requires { ⌜ (twos < bitwidth) × (bitwidth ≤ 64) ⌝ }
+    ensures { λ r. ⌜ r ≡ (entry / 2 ^ twos * v) % 2 ^ (bitwidth - twos) ⌝ }
+{
+    arith::wrapping_mul(entry >> twos, v) & arith::bitmask(bitwidth - twos)
+}
+
+// The number less q times the other, modulo 2^bitwidth, for the mask of that width.
+fn less_multiple(number: u64, q: u64, other: u64, mask: u64, bitwidth: u32) -> u64
+    requires { ⌜ (bitwidth ≤ 64) × (mask ≡ 2 ^ bitwidth - 1) ⌝ }
+    ensures { λ r. ⌜ r ≡ minus (2 ^ bitwidth) number (q * other) ⌝ }
+{
+    arith::wrapping_sub(number, arith::wrapping_mul(q, other)) & mask
+}
+
+// The number less q times the other, modulo 2^bitwidth.
+pub(crate) fn less(number: u64, q: u64, other: u64, bitwidth: u32) -> u64
+    requires { ⌜ bitwidth ≤ 64 ⌝ }
+    ensures { λ r. ⌜ r ≡ minus (2 ^ bitwidth) number (q * other) ⌝ }
+{
+    less_multiple(number, q, other, arith::bitmask(bitwidth), bitwidth)
+}
+
+// One row of a part less q times another: `count` numbers from `target` on, and as many from `source` on.
+fn subtract_within(
+    part: &mut [u64],
+    source: usize,
+    target: usize,
+    count: usize,
+    q: u64,
+    bitwidth: u32,
+)
+    requires { ⌜ (source + count ≤ length (now part)) × (target + count ≤ length (now part)) × (source < target → source + count ≤ target) ⌝ }
+    requires { ⌜ (bitwidth ≤ 64) ⌝ }
+    ensures { λ r. ⌜ Subtracted (2 ^ bitwidth) q source target count (now (part .entry)) (now (part .exit)) ⌝ }
+{
+    let mask = arith::bitmask(bitwidth);
+    let mut k = 0;
+    while k < count {
+        part[target + k] = less_multiple(part[target + k], q, part[source + k], mask, bitwidth);
+        k += 1;
+    }
+}
+
+// The same in a whole matrix: the part that spans both rows is lent on.
+pub(crate) fn subtract_row(
+    matrix: &mut [u64],
+    source: usize,
+    target: usize,
+    count: usize,
+    q: u64,
+    bitwidth: u32,
+)
+    requires { ⌜ (source + count ≤ length (now matrix)) × (target + count ≤ length (now matrix)) × (source < target → source + count ≤ target) ⌝ }
+    requires { ⌜ (bitwidth ≤ 64) ⌝ }
+    ensures { λ r. ⌜ Subtracted (2 ^ bitwidth) q source target count (now (matrix .entry)) (now (matrix .exit)) ⌝ }
+{
+    if source < target {
+        subtract_within(
+            &mut matrix[source..target + count],
+            0,
+            target - source,
+            count,
+            q,
+            bitwidth,
+        );
+        return;
+    }
+    subtract_within(
+        &mut matrix[target..source + count],
+        source - target,
+        0,
+        count,
+        q,
+        bitwidth,
+    );
+}

@@ -1,8 +1,0 @@
-use Rattle.weighted_poly_fit.proofs.rows.lower_height.Statement.{statement}
-use borrow.Author.Tests.{lt-ltb, le-ltb}
-use Rattle.weighted_poly_fit.proofs.rows.lower_height.Tie as tie
-
-pub lower-height-spec : {M : Type 1} → statement M
-lower-height-spec = tie.close (tie.spec
-    (λ c. simp (lt-ltb _ _ (c .if1 .taken)))
-    (λ c. simp (le-ltb _ _ (c .if1 .left))))
