@@ -5,3 +5,4 @@ pub mod Added
 pub mod RowTables
 pub mod SubBoxes
 pub mod Whole
+pub mod TwoPasses

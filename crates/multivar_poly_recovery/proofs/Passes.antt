@@ -2,7 +2,7 @@
 -- middle of, so that no bound on the number of passes is needed before the end.
 use mathlib.Core.Path.{_≡_, refl, _∙_}
 use Prim.Native.Nat.{ℕ, suc, _+_, _*_, _-_, _^_, _≤_, _<_}
-use native.Mathlib.Nat.{le-refl, le-antisymm, le-of-suc-le-suc, lt-of-mul-lt-mul-left, le-of-mul-le-mul-left}
+use native.Mathlib.Nat.{le-refl, le-of-suc-le-suc, le-of-mul-le-mul-left}
 use native.Mathlib.Omega.{arith}
 use mathlib.Core.List.{List}
 use lib.ListN.{length, set, length-set}
@@ -55,7 +55,6 @@ PassDone stride low t t′ =
 -- the next pass ends at place `low`
 pub record Passes (stride d : ℕ) (t₀ t : List ℕ) (low : ℕ) : Type 0 where
   pub count : ℕ
-  pub few : count ≤ d
   pub place : low ≡ stride * suc count
   pub above : stride ≤ low
   pub passed : NewtonPassed (2 ^ 64) stride d (at t₀) (length t₀) count t
@@ -65,7 +64,6 @@ module _ (stride d : ℕ) (t₀ : List ℕ) where
   passes-start =
       record {
         count = 0;
-        few = omega arith;
         place = omega arith;
         above = le-refl stride;
         passed = newton-start (2 ^ 64) stride d t₀;
@@ -79,7 +77,6 @@ module _ (stride d : ℕ) (t₀ : List ℕ) where
     passes-step t′ h done =
         record {
           count = suc (r .count);
-          few = le-of-suc-le-suc (lt-of-mul-lt-mul-left stride (rw (← r .place, ← whole, ← same) h));
           place = omega (arith, r .place);
           above = omega arith;
           passed = rw same at (done d (r .count) (at t₀) (r .place) (rw same (r .passed)));
@@ -87,6 +84,6 @@ module _ (stride d : ℕ) (t₀ : List ℕ) where
 
     pub passes-done : length t ≤ low → t ≡ tabulate (length t₀) (lined (newton (2 ^ 64)) stride d (at t₀))
     passes-done h =
-        let last : r .count ≡ d = le-antisymm (r .few) (le-of-suc-le-suc (le-of-mul-le-mul-left (rw (← r .place, ← whole, ← same) h) pos)) in
-        let shown = newton-done pos whole (rw last at (r .passed)) in
+        let enough : d ≤ r .count = le-of-suc-le-suc (le-of-mul-le-mul-left (rw (← r .place, ← whole, ← same) h) pos) in
+        let shown = newton-done pos whole enough (r .passed) in
         eq-tabulate t (length t₀) _ (shown .same) (shown .entry)

@@ -22,11 +22,48 @@ fn difference_pass(part: &mut [u64], stride: usize, low: usize)
     }
 }
 
+// Two passes at once over a single line, the first down to place `low`, the second to the place after it: from the lowest number up. Of the place before,
+// `number` is what it had before the two passes, and `once` what the second one takes away.
+fn difference_twice(part: &mut [u64], low: usize)
+    requires { ⌜ (0 < low) × (low < length (now part)) ⌝ }
+    ensures { λ r. ⌜ ((d p : ℕ) (f : ℕ → ℕ) → low ≡ suc p
+        → NewtonPassed (2 ^ 64) 1 d f (length (now (part .entry))) p (now (part .entry))
+        → NewtonPassed (2 ^ 64) 1 d f (length (now (part .entry))) (suc (suc p)) (now (part .exit))) ⌝ }
+{
+    let mut number = part[low - 1];
+    let mut once = 0;
+    let mut i = low;
+    while i < part.len() {
+        let next = part[i];
+        let difference = arith::wrapping_sub(next, number);
+        part[i] = arith::wrapping_sub(difference, once);
+        number = next;
+        once = difference;
+        i += 1;
+    }
+}
+
+// A single line. A second pass that has nothing left to do changes nothing.
+fn difference_line(part: &mut [u64])
+    ensures { λ r. ⌜ ((d : ℕ) → length (now (part .entry)) ≡ suc d
+        → now (part .exit) ≡ tabulate (length (now (part .entry))) (lined (newton (2 ^ 64)) 1 d (at (now (part .entry))))) ⌝ }
+{
+    let mut low = 1;
+    while low < part.len() {
+        difference_twice(part, low);
+        low += 2;
+    }
+}
+
 // Every line of one block of stride (d + 1) numbers.
 fn difference_block(part: &mut [u64], stride: usize, d: u8)
     requires { ⌜ (0 < stride) × (length (now part) ≡ stride * suc d) ⌝ }
     ensures { λ r. ⌜ now (part .exit) ≡ tabulate (length (now (part .entry))) (lined (newton (2 ^ 64)) stride d (at (now (part .entry)))) ⌝ }
 {
+    if stride == 1 {
+        difference_line(part);
+        return;
+    }
     let mut low = stride;
     while low < part.len() {
         difference_pass(part, stride, low);

@@ -6,7 +6,7 @@ use mathlib.Core.Path.{_≡_, refl, sym, ap, ap₂, _∙_}
 use mathlib.Core.Logic.{_⊎_, inl, inr}
 use Prim.Native.Nat.{ℕ, zero, suc, _+_, _-_, _*_, _/_, _%_, min, _≤_, _<_, suc-le-suc}
 use native.Mathlib.Nat.{add-mod-right, add-div-right, lt-irrefl, lt-of-lt-of-le, not-suc-le-zero, add-zero, add-suc, le-refl, suc-min-suc}
-use native.Mathlib.Nat.{suc-sub-suc}
+use native.Mathlib.Nat.{suc-sub-suc, le-trans}
 use native.Mathlib.Nat.{eq-or-lt-of-le, le-of-suc-le-suc, div-add-mod', le-div-iff-mul-le, div-lt-iff-lt-mul, mul-comm, zero-min, sub-zero}
 use native.Mathlib.Nat.{min-eq-left, min-eq-right, sub-eq-zero-of-le}
 use native.Mathlib.Numerals.{add-one, sub-one}
@@ -155,13 +155,18 @@ differenced-keep m p d v e h =
     differenced-done m (suc p) d v e (omega arith) ∙ sym (differenced-done m p d v e h)
 
 -- one number of pass p + 1, by the numbers of pass p
-lined-differenced : (m s p d : ℕ) (f : ℕ → ℕ) (i : ℕ) → 0 < s → s * suc p ≤ i + s →
+pub lined-differenced : (m s p d : ℕ) (f : ℕ → ℕ) (i : ℕ) → 0 < s → s * suc p ≤ i + s →
     lined (differenced m (suc p)) s d f (i + s) ≡ minus m (lined (differenced m p) s d f (i + s)) (lined (differenced m p) s d f i)
 unfolding lined
 lined-differenced m s p d f i pos h =
     lined-add s pos (differenced m (suc p)) d f i
     ∙ differenced-step m p d _ (i / s) (index-le s pos p i (omega arith))
     ∙ ap (λ x. minus m x (lined (differenced m p) s d f i)) (sym (lined-add s pos (differenced m p) d f i))
+
+-- the numbers below index p + 1 stay
+pub lined-kept : (m s p d : ℕ) (f : ℕ → ℕ) (i : ℕ) → 0 < s → i < s * suc p → lined (differenced m (suc p)) s d f i ≡ lined (differenced m p) s d f i
+unfolding lined
+lined-kept m s p d f i pos h = differenced-keep m p d _ (i / s) (le-of-suc-le-suc (index-lt s pos (suc p) i h))
 
 -- a block of n numbers, f at the start, after p passes
 pub record NewtonPassed (m s d : ℕ) (f : ℕ → ℕ) (n p : ℕ) (t : List ℕ) : Type 0 where
@@ -200,18 +205,14 @@ module _ {m s d : ℕ} {f : ℕ → ℕ} {n : ℕ} {t : List ℕ} where
 
   -- a pass ends where only indices up to p are left
   pub newton-pass-done : {p i : ℕ} → 0 < s → i ≤ s * suc p → NewtonPass m s d f n p i t → NewtonPassed m s d f n (suc p) t
-  unfolding lined
   newton-pass-done {p} {i} pos h r =
-      record { shows = shows-high (r .parted) (λ j q l. sym (differenced-keep m p d _ (j / s) (low j q))) }
-    where
-      low : (j : ℕ) → j < i → j / s ≤ p
-      low j q = le-of-suc-le-suc (index-lt s pos (suc p) j (lt-of-lt-of-le q h))
+      record { shows = shows-high (r .parted) (λ j q l. sym (lined-kept m s p d f j pos (lt-of-lt-of-le q h))) }
 
-  -- after d passes the table is done
-  pub newton-done : 0 < s → n ≡ s * suc d → NewtonPassed m s d f n d t → Shows (lined (newton m) s d f) n t
+  -- after d passes or more the table is done
+  pub newton-done : {p : ℕ} → 0 < s → n ≡ s * suc d → d ≤ p → NewtonPassed m s d f n p t → Shows (lined (newton m) s d f) n t
   unfolding lined
-  newton-done pos whole r =
-      record { same = r .shows .same; entry = λ i q. r .shows .entry i q ∙ differenced-done m d d _ (i / s) (low i q) }
+  newton-done {p} pos whole enough r =
+      record { same = r .shows .same; entry = λ i q. r .shows .entry i q ∙ differenced-done m p d _ (i / s) (low i q) }
     where
-      low : (i : ℕ) → i < n → i / s ≤ d
-      low i q = le-of-suc-le-suc (index-lt s pos (suc d) i (rw whole at q))
+      low : (i : ℕ) → i < n → i / s ≤ p
+      low i q = le-trans (le-of-suc-le-suc (index-lt s pos (suc d) i (rw whole at q))) enough
