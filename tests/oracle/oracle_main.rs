@@ -22,6 +22,7 @@ mod reference;
 mod rows;
 mod settings;
 mod singletons;
+mod systems;
 
 use group::{first_difference, Group};
 use judge::{judge, Failure, Plant};
@@ -41,6 +42,7 @@ fn groups() -> Vec<(&'static Group, bool)> {
     groups.extend(conversions::GROUPS);
     groups.extend(recovery::GROUPS);
     groups.extend(singletons::GROUPS);
+    groups.extend(systems::GROUPS);
     groups.extend(demand3::GROUPS);
     groups
 }

@@ -4,3 +4,4 @@ pub mod arithmetic;
 pub mod boxes;
 pub mod keys;
 pub mod leaves;
+pub mod systems;
