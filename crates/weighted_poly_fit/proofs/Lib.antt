@@ -7,3 +7,5 @@ pub mod Entries
 pub mod Coordinates
 pub mod MatrixRows
 pub mod FitMatrix
+pub mod ExponentLists
+pub mod AnswerBox

@@ -1,3 +1,4 @@
-// The weighted fit: its columns and its matrix.
+// The weighted fit: its columns, its matrix and its answer.
+mod answer;
 mod columns;
 mod matrix;
