@@ -7,6 +7,7 @@ mod conversions;
 mod core;
 mod definitions;
 mod demand3;
+mod fit;
 mod group;
 mod ir;
 mod judge;
@@ -43,6 +44,7 @@ fn groups() -> Vec<(&'static Group, bool)> {
     groups.extend(recovery::GROUPS);
     groups.extend(singletons::GROUPS);
     groups.extend(systems::GROUPS);
+    groups.extend(fit::GROUPS);
     groups.extend(demand3::GROUPS);
     groups
 }
