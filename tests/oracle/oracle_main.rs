@@ -65,7 +65,7 @@ struct Options {
 fn usage(why: &str) -> ! {
     eprintln!("oracle: {why}");
     eprintln!("usage: run [--seed N] [--cases N] [--only GROUP] [--numbers] [--complete] [--selftest]");
-    eprintln!("   or: run --sample leaves|conversions|recovery [--cases-only|--answers-only]");
+    eprintln!("   or: run --sample leaves|conversions|recovery|systems [--cases-only|--answers-only]");
     exit(2)
 }
 
