@@ -9,3 +9,6 @@ pub mod MatrixRows
 pub mod FitMatrix
 pub mod ExponentLists
 pub mod AnswerBox
+pub mod FitSystems
+pub mod FitAnswers
+pub mod FitCalls

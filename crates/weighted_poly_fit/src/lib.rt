@@ -1,4 +1,5 @@
-// The weighted fit: its columns, its matrix and its answer.
+// The weighted fit: its columns, its matrix, the box of its answer, and the call.
 mod answer;
 mod columns;
+pub mod fit;
 mod matrix;
