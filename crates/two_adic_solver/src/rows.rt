@@ -1,7 +1,7 @@
 // The rows of a matrix modulo 2^w: numbers reduced, a column's pivot found, a multiple of the pivot row subtracted.
 ghost use mathlib.Core.Path.{_≡_};
 ghost use mathlib.Core.Bool.{cond};
-ghost use Prim.Native.Nat.{_+_, _*_, _-_, _/_, _%_, _^_, _≤_, _<_};
+ghost use Prim.Native.Nat.{ℕ, _+_, _*_, _-_, _/_, _%_, _^_, _≤_, _<_};
 ghost use lib.ListN.{length};
 ghost use lib.Dec.{ltb};
 ghost use Rattle.meaning.specs.Tables.{tabulate, at};
@@ -111,6 +111,20 @@ pub(crate) fn less(number: u64, q: u64, other: u64, bitwidth: u32) -> u64
     ensures { λ r. ⌜ r ≡ minus (2 ^ bitwidth) number (q * other) ⌝ }
 {
     less_multiple(number, q, other, arith::bitmask(bitwidth), bitwidth)
+}
+
+// How many numbers there are up to the last that is not 0.
+pub(crate) fn span(list: &[u64]) -> usize
+    ensures { λ r. ⌜ (r ≤ length (now (list .entry))) × ((j : ℕ) → r ≤ j → at (now (list .entry)) j ≡ 0) ⌝ }
+{
+    let mut n = list.len();
+    while 0 < n {
+        if list[n - 1] != 0 {
+            return n;
+        }
+        n -= 1;
+    }
+    0
 }
 
 // One row of a part less q times another: `count` numbers from `target` on, and as many from `source` on.
