@@ -3,7 +3,7 @@ use mathlib.Core.Path.{_≡_, refl, sym, ap, ap₂, _∙_}
 use mathlib.Core.Bool.{Bool, true, false, _&&_, _||_, cond}
 use mathlib.Core.List.{List, [], _∷_}
 use Prim.Native.Nat.{ℕ, zero, suc, pred, _*_, _%_, _/_, _≤_, _<_, suc-le-suc}
-use native.Mathlib.Nat.{zero-lt-suc, suc-ne-zero, mul-div-cancel, le-of-suc-le-suc}
+use native.Mathlib.Nat.{zero-lt-suc, suc-ne-zero, mul-div-cancel}
 use native.Mathlib.Omega.{arith}
 use borrow.Author.Tests.{lt-ltb, le-ltb, eq-eqb}
 use lib.Dec.{ltb, eqb}
@@ -11,7 +11,7 @@ use lib.ListN.{length}
 use Rattle.meaning.specs.Tables.{at, tabulate}
 use Rattle.meaning.specs.Boxes.{cells, digits}
 use Rattle.meaning.specs.Values.{bound}
-use Rattle.meaning.specs.Replies.{Reply, accepted, refused, between}
+use Rattle.meaning.specs.Replies.{accepted, refused}
 use Rattle.meaning.specs.Settings.{first}
 use Rattle.meaning.specs.Calls.{sameList, reply, left}
 use Rattle.meaning.specs.Elimination.{State, system, eliminated, substituted, succeeds, solverRows, solverCause, solverState, solverSucceeds, solverNumber, solverAnswer}
@@ -21,34 +21,29 @@ use Rattle.theory.specs.Ranges.{between-true}
 use Rattle.answers.specs.declared.Refusal.{Refusal}
 use Rattle.answers.specs.Said.{code}
 use Rattle.answers.specs.Laws.{code-suc}
-use Rattle.weighted_poly_fit.specs.Fitting.{Answered}
+use Rattle.weighted_poly_fit.specs.Fitting.{Solvable, Answered}
 
 -- ---- only the values of the columns count
 
-pub valueOf-cong : (fs : List (List ℕ)) (x y : ℕ → ℕ) (es : List ℕ) → ((c : ℕ) → c < length fs → x c ≡ y c) → valueOf fs x es ≡ valueOf fs y es
+pub valueOf-cong : (fs : List (List ℕ)) (x y : ℕ → ℕ) (es : List ℕ) → ((c : ℕ) → c < length fs → x c ≡ y c)
+    → valueOf fs x es ≡ valueOf fs y es
 unfolding valueOf
 valueOf-cong [] x y es h = refl
 valueOf-cong (f ∷ fs) x y es h =
     ap₂ (cond (sameList f es)) (h 0 (zero-lt-suc (length fs))) (valueOf-cong fs (λ i. x (suc i)) (λ i. y (suc i)) es (λ c l. h (suc c) (suc-le-suc l)))
 
-pub fitBox-cong : (w : ℕ) (ds : List ℕ) (fs : List (List ℕ)) (x y : ℕ → ℕ) → ((c : ℕ) → c < length fs → x c ≡ y c) → fitBox w ds fs x ≡ fitBox w ds fs y
+pub fitBox-cong : (w : ℕ) (ds : List ℕ) (fs : List (List ℕ)) (x y : ℕ → ℕ) → ((c : ℕ) → c < length fs → x c ≡ y c)
+    → fitBox w ds fs x ≡ fitBox w ds fs y
 unfolding fitBox
 fitBox-cong w ds fs x y h =
     tabulate-cong (cells ds) _ _ (λ n l. ap (_% bound w (digits ds n)) (valueOf-cong fs x y (digits ds n) h))
 
 -- ---- the solver on tables that fit
 
--- what the solver is given
-pub record Fits (w cols : ℕ) (mat rhs x : List ℕ) : Type 0 where
-  pub low : 2 ≤ w
-  pub high : w ≤ 64
-  pub some : 0 < cols
-  pub few : cols ≤ 256
-  pub whole : length mat ≡ length rhs * cols
-  pub small : length mat ≤ 65536
-  pub room : length x ≡ cols
+module _ (w : ℕ) (mat rhs x : List ℕ) (f : Solvable w mat rhs x) where
+  abbrev cols : ℕ
+  cols = length x
 
-module _ (w cols : ℕ) (mat rhs x : List ℕ) (f : Fits w cols mat rhs x) where
   abbrev state : State
   state = eliminated w (length rhs) cols (system w cols mat rhs)
 
@@ -70,7 +65,7 @@ module _ (w cols : ℕ) (mat rhs x : List ℕ) (f : Fits w cols mat rhs x) where
       all =
           ap₂ _&&_
           (ap₂ _&&_ (ap₂ _&&_ (lt-ltb 0 cols (f .some)) (eq-eqb _ _ (ap (_* cols) rows-eq ∙ sym (f .whole)))) (eq-eqb _ _ (sym rows-eq)))
-          (eq-eqb _ _ (f .room))
+          (eq-eqb cols cols refl)
 
   -- its number and its answer
   number-eq : solverNumber w cols mat rhs x ≡ cond (succeeds w (length rhs) cols state) 0 10
@@ -86,7 +81,7 @@ module _ (w cols : ℕ) (mat rhs x : List ℕ) (f : Fits w cols mat rhs x) where
       ∙ ap
       (λ (r : ℕ). let s = eliminated w r cols (system w cols mat rhs) in tabulate cols (λ c. cond (succeeds w r cols s) (substituted w cols s c) 0)) rows-eq
 
-  module _ (ds : List ℕ) (fs : List (List ℕ)) (count : cols ≡ length fs) where
+  module _ (ds : List ℕ) (fs : List (List ℕ)) (count : length x ≡ length fs) where
     -- the elimination finds an answer
     success : 0 ≡ solverNumber w cols mat rhs x → succeeds w (length rhs) cols state ≡ true
     success e = go (succeeds w (length rhs) cols state) (e ∙ number-eq)
@@ -95,9 +90,9 @@ module _ (w cols : ℕ) (mat rhs x : List ℕ) (f : Fits w cols mat rhs x) where
         go true p = refl
         go false p = absurd (suc-ne-zero 9 (sym p))
 
-    pub answered-accepted : 0 ≡ solverNumber w cols mat rhs x → (values out : List ℕ) (r : ℕ) → values ≡ solverAnswer w cols mat rhs x
+    pub answered-accepted : 0 ≡ solverNumber w (length x) mat rhs x → (values out : List ℕ) (r : ℕ) → values ≡ solverAnswer w (length x) mat rhs x
         → r ≡ degreeUsed ds (fitBox w ds fs (at values)) → out ≡ fitBox w ds fs (at values)
-        → Answered w (length rhs) cols ds fs (system w cols mat rhs) out (accepted r)
+        → Answered w (length rhs) (length x) ds fs (system w (length x) mat rhs) out (accepted r)
     answered-accepted e values out r v p q =
         record {
           says = ap accepted (p ∙ ap (degreeUsed ds) same) ∙ sym (ap (λ (b : Bool). reply (cond b 0 10) (degreeUsed ds found)) (success e));
@@ -117,12 +112,14 @@ module _ (w cols : ℕ) (mat rhs x : List ℕ) (f : Fits w cols mat rhs x) where
         same = fitBox-cong w ds fs (at values) (substituted w cols state) entry
 
     -- and none
-    pub answered-refused : (refusal : Refusal) → code refusal ≡ solverNumber w cols mat rhs x → (out : List ℕ) → out ≡ tabulate (cells ds) (λ n. 0)
-        → Answered w (length rhs) cols ds fs (system w cols mat rhs) out (refused (code refusal))
+    pub answered-refused : (refusal : Refusal) → code refusal ≡ solverNumber w (length x) mat rhs x → (out : List ℕ) → out ≡ tabulate (cells ds) (λ n. 0)
+        → Answered w (length rhs) (length x) ds fs (system w (length x) mat rhs) out (refused (code refusal))
     answered-refused refusal e out q =
+        let none = go (succeeds w (length rhs) cols state) (e ∙ number-eq) in
         record {
-          says = go (succeeds w (length rhs) cols state) (e ∙ number-eq) .0 (degreeUsed ds (fitBox w ds fs (substituted w cols state)));
-          leaves = q ∙ sym (ap (λ (b : Bool). cond b (fitBox w ds fs (substituted w cols state)) (tabulate (cells ds) (λ n. 0))) (go (succeeds w (length rhs) cols state) (e ∙ number-eq) .1));
+          says = none .0 (degreeUsed ds (fitBox w ds fs (substituted w cols state)));
+          leaves =
+              q ∙ sym (ap (λ (b : Bool). cond b (fitBox w ds fs (substituted w cols state)) (tabulate (cells ds) (λ n. 0))) (none .1));
         }
       where
         go : (b : Bool) → code refusal ≡ cond b 0 10 → ((v : ℕ) → refused (code refusal) ≡ reply (cond b 0 10) v) × (b ≡ false)
