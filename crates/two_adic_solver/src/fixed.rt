@@ -75,7 +75,8 @@ fn solve_with(
 ) -> Outcome
     requires { ⌜ Square (now matrix) × (length (now right) ≡ 4) × (length (now used) ≡ 4) × (length (now pivots) ≡ 4) × (length (now answer) ≡ 4) ⌝ }
     requires { ⌜ (bitwidth ≤ 64) × ((i : ℕ) → i < length (now right) → getD (now used) i false ≡ false) ⌝ }
-    ensures { λ r. ⌜ Finished bitwidth 4 (joined (now (matrix .entry))) (now (right .entry)) (joined (now (matrix .exit))) (now (right .exit)) (now (answer .exit)) (saidNumber r) ⌝ }
+    ensures { λ r. ⌜ Finished bitwidth 4 (joined (now (matrix .entry))) (now (right .entry))
+        (joined (now (matrix .exit))) (now (right .exit)) (now (answer .exit)) (saidNumber r) ⌝ }
 {
     eliminate_rows(matrix, right, used, pivots, bitwidth);
     if conclude(matrix, right, used, pivots, answer, bitwidth) {

@@ -1,6 +1,6 @@
 // Back-substitution on a four by four array of arrays, last column first. Contracts speak of its rows one behind the other.
 ghost use mathlib.Core.Path.{_≡_};
-ghost use Prim.Native.Nat.{ℕ, _+_, _*_, _^_, _≤_, _<_};
+ghost use Prim.Native.Nat.{ℕ, _+_, _*_, _≤_, _<_};
 ghost use lib.ListN.{length};
 ghost use Rattle.meaning.specs.Tables.{at};
 ghost use Rattle.meaning.specs.Factorials.{twosIn};
@@ -65,7 +65,8 @@ pub(crate) fn substitute(
     bitwidth: u32,
 ) -> bool
     requires { ⌜ Square (now matrix) × (length (now right) ≡ 4) × (length (now pivots) ≡ 4) × (length (now answer) ≡ 4) × (bitwidth ≤ 64) ⌝ }
-    requires { ⌜ ((j : ℕ) → j < 4 → (at (now pivots) j < length (now right)) × (twosIn bitwidth (at (joined (now matrix)) (at (now pivots) j * 4 + j)) < bitwidth)) ⌝ }
+    requires { ⌜ ((j : ℕ) → j < 4 → (at (now pivots) j < length (now right))
+        × (twosIn bitwidth (at (joined (now matrix)) (at (now pivots) j * 4 + j)) < bitwidth)) ⌝ }
     ensures { λ r. ⌜ ((s : State) → Shows (length (now (right .entry))) 4 s (joined (now (matrix .entry))) (now (right .entry))
         → ((j : ℕ) → j < 4 → at (now (pivots .entry)) j ≡ s .pivot j)
         → Substituted bitwidth 4 s (now (answer .exit)) r) ⌝ }

@@ -16,11 +16,15 @@ conclude-spec =
     (λ c κs.
     let p = c .before .before .before .before .before .before .before .before .before .pre in (
       (p .0 .0, p .0 .1, p .0 .3, p .0 .4, p .1 .0),
-      ended-low _ _ _ _ _ _ _ (p .1 .1) (sym (not-false _ (c .before .before .before .if1 .left)) ∙ c .before .before .before .before .pivots-found .ensures),
+      ended-low _ _ _ _ _ _ _ (p .1 .1)
+          (sym (not-false _ (c .before .before .before .if1 .left)) ∙ c .before .before .before .before .pivots-found .ensures),
     ))
     (λ c. search needs)
     (λ c.
-    let found = sym (c .before .before .before .before .before .before .before .pivots-found .ensures) ∙ not-false _ (c .before .before .before .before .before .before .if1 .left) in
-    let vanish = sym (c .before .before .before .before .before .rights-vanish .ensures) ∙ not-false _ (c .before .before .before .before .if2 .left) in
+    let found = sym (c .before .before .before .before .before .before .before .pivots-found .ensures) ∙ not-false _
+    (c .before .before .before .before .before .before .if1 .left) in
+    let vanish = sym (c .before .before .before .before .before .rights-vanish .ensures) ∙ not-false _
+    (c .before .before .before .before .if2 .left) in
     λ st h.
-    concluded _ _ _ _ _ _ _ st h _ (c .before .before .substitute .result) found vanish (c .before .before .substitute .ensures st (h .shows) (h .rows-eq))))
+    concluded _ _ _ _ _ _ _ st h _ (c .before .before .substitute .result) found vanish
+    (c .before .before .substitute .ensures st (h .shows) (h .rows-eq))))

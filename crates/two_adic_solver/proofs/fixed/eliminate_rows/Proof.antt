@@ -22,8 +22,9 @@ eliminate-rows-spec =
     (λ c.
     let k = c .before .before .before .before .before .before .eliminate in
     let r = c .before .before .before .before .before .before .before .before .before .before .before .before .before .reduce2 in
-    let m = c .before .before .before .before .before .before .before .before .before .before .before .before .before .before .before .reduce in
-    let s = c .before .before .before .before .before .before .before .before .before .before .before .before .before .before .before .before .before .before .before .before in
+    let x = c .before .before .before .before .before .before .before .before .before .before .before .before .before .before .before in
+    let m = x .reduce in
+    let s = x .before .before .before .before .before in
     let a = s .args in
     let p = s .pre in
     let fit = joined-length (p .0) ∙ sym (ap (_* 4) (p .1)) in (

@@ -15,10 +15,14 @@ solve-2adic-fixed-spec =
     (λ c. search needs) (λ c. search needs) (λ c. search needs) (λ c. search needs)
     (λ c κs.
     let s = c .before .before .before .before .before .before .before in
-    let g = s .good in
-    ((square-good _ _ (g .0), length-good (s .args .right) _ (g .1 .0), refl, refl, refl), (c .before .before .before .before .before .if2 .left, λ i l. unmarked 4 i)))
+    let g = s .good in (
+      (square-good _ _ (g .0), length-good (s .args .right) _ (g .1 .0), refl, refl, refl),
+      (c .before .before .before .before .before .if2 .left, λ i l. unmarked 4 i),
+    ))
     (λ c.
     let s = c .before .before .before .before .before .before .before .before .before .before .before .before in
     let g = s .good in
     fixed-solved _ (s .args .matrix) (s .args .right) (square-good _ _ (g .0)) (length-good (s .args .right) _ (g .1 .0))
-    (c .before .before .before .before .before .before .before .before .before .before .before .if1 .left) (c .before .before .before .before .before .before .before .before .before .before .if2 .left) _ _ _ _ (c .before .before .before .before .solve-with .ensures)))
+    (c .before .before .before .before .before .before .before .before .before .before .before .if1 .left)
+    (c .before .before .before .before .before .before .before .before .before .before .if2 .left) _ _ _ _
+    (c .before .before .before .before .solve-with .ensures)))

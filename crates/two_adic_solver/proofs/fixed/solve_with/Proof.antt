@@ -37,8 +37,9 @@ solve-with-spec =
     (λ c κs. search needs)
     (λ c. search needs) (λ c. search needs) (λ c. search needs) (λ c. search needs)
     (λ c.
-    let k = c .before .before .before .before .before .before .before .conclude in
-    let x = c .before .before .before .before .before .before .before .before .before .before .before .before .before .before .before .before .before .before .before in
+    let y = c .before .before .before .before .before .before .before in
+    let k = y .conclude in
+    let x = y .before .before .before .before .before .before .before .before .before .before .before .before in
     let s = x .before .before .before .before .before .before .before .before .before in
     let a = s .args in
     let p = s .pre in

@@ -40,7 +40,8 @@ clear-row-spec =
     let k = c .before .before .before .subtract-row in (
       k .ensures .0,
       λ st h ev small zeros.
-          row-subtracted _ _ _ _ _ st _ _ _ _ h (a .used) (c .before .before .before .before .before .before .before .before .if1 .left) small zeros lp li (p .0 .2) (q .result)
+          row-subtracted _ _ _ _ _ st _ _ _ _ h (a .used)
+          (c .before .before .before .before .before .before .before .before .if1 .left) small zeros lp li (p .0 .2) (q .result)
           (quotient-told _ _ (st .entry (a .pivot) (a .column)) _ _ (a .v) _ (q .ensures)
           (sym (joined-entry (p .0 .0) (a .row) (a .column) (p .0 .4) (p .0 .2)) ∙ h .entries (a .row) (a .column) li (p .0 .2)) ev)
           _ (k .ensures .1) _ (c .less .ensures),

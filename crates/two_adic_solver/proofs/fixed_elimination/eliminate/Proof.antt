@@ -34,11 +34,15 @@ eliminate-spec =
     let k = c .before .before .before .before .before .before .eliminate-column in (
       k .ensures .0,
       passed-step _ _ _ _ _ _ (joined (b .loop .matrix)) (b .loop .right) (b .loop .used) (b .loop .pivots)
-          (joined (k .last .0)) (k .last .1 .0) (k .last .1 .1 .0) (k .last .1 .1 .1 .0) (b .loop .column) (i .1) (c .before .before .before .before .before .before .before .before .before .before .before .loop-test .taken)
+          (joined (k .last .0)) (k .last .1 .0) (k .last .1 .1 .0) (k .last .1 .1 .1 .0) (b .loop .column) (i .1)
+          (c .before .before .before .before .before .before .before .before .before .before .before .loop-test .taken)
           (joined-length (k .ensures .0) ∙ sym (joined-length (i .0))) (omega arith) (omega arith) (omega arith) (k .ensures .1),
     ))
     (λ c. c .before .loop .inv .1 .same-right) (λ c. c .before .loop .inv .1 .same-used) (λ c. c .before .loop .inv .1 .same-pivots)
     (λ c.
     let b = c .before in
-    let i = b .loop .inv in
-    (i .0, passed-done _ _ _ _ _ _ (joined (b .loop .matrix)) (b .loop .right) (b .loop .used) (b .loop .pivots) (b .loop .column) (i .1) (c .loop-test .left))))
+    let i = b .loop .inv in (
+      i .0,
+      passed-done _ _ _ _ _ _ (joined (b .loop .matrix)) (b .loop .right) (b .loop .used) (b .loop .pivots) (b .loop .column) (i .1)
+          (c .loop-test .left),
+    )))

@@ -1,8 +1,7 @@
 use Rattle.two_adic_solver.proofs.fixed_elimination.find_pivot.Statement.{statement}
-use mathlib.Core.Path.{refl, sym, ap, _∙_}
+use mathlib.Core.Path.{sym, ap, _∙_}
 use mathlib.Core.Bool.{cond, false}
 use Prim.Native.Nat.{ℕ, _-_, _*_, _+_}
-use native.Mathlib.Omega.{arith}
 use lib.ListN.{getD}
 use Rattle.meaning.specs.Factorials.{twosIn}
 use Rattle.meaning.specs.Elimination.{joined}

@@ -1,6 +1,5 @@
 use Rattle.two_adic_solver.proofs.fixed_substitution.rest_of.Statement.{statement}
 use Prim.Native.Nat.{_-_}
-use native.Mathlib.Omega.{arith}
 use Rattle.two_adic_solver.proofs.FixedLaws.{Known, known-start, known-step, known-rest}
 use borrow.Author.Needs.{needs}
 use Rattle.two_adic_solver.proofs.fixed_substitution.rest_of.Tie as tie
@@ -33,5 +32,6 @@ rest-of-spec =
     (λ c.
     let b = c .before .before .before in
     let s = b .before .before .before in
-    known-rest _ _ _ _ (s .args .bitwidth) (s .args .right .now) (b .loop .known) (b .loop .k) _ (b .loop .inv) (c .before .before .loop-test .left) (s .pre .5)
+    known-rest _ _ _ _ (s .args .bitwidth) (s .args .right .now) (b .loop .known) (b .loop .k) _ (b .loop .inv) (c .before .before .loop-test .left)
+    (s .pre .5)
     (c .mod-sub .ensures)))

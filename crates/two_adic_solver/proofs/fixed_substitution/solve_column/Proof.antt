@@ -41,7 +41,8 @@ solve-column-spec =
     (λ c κs.
     let s = c .before .before .before .before .before .before .before .before .before in
     let p = s .pre in
-    rw (c .before .before .before .before .before .height .ensures) (low-entry (p .0 .0) _ (s .args .pivot) (s .args .column) (p .0 .4) (p .0 .3) (p .1 .1), p .1 .0))
+    rw (c .before .before .before .before .before .height .ensures)
+    (low-entry (p .0 .0) _ (s .args .pivot) (s .args .column) (p .0 .4) (p .0 .3) (p .1 .1), p .1 .0))
     (λ c. search needs) (λ c. search needs) (λ c. search needs)
     (λ c.
     let s = c .before .before .before .before .before .before .before .before .before .before in
@@ -52,8 +53,10 @@ solve-column-spec =
     let low = low-entry (p .0 .0) (a .bitwidth) (a .pivot) (a .column) (p .0 .4) (p .0 .3) (p .1 .1) in
     let same = joined-entry (p .0 .0) (a .pivot) (a .column) (p .0 .4) (p .0 .3) in
     let lp : a .pivot < length (a .right .now) = omega (arith, p .0 .1, p .0 .4) in
-    let cut = ap (bitAnd (k .result)) (c .before .before .before .bitmask .ensures) ∙ masked-low (k .result) (t .result) (omega (arith, t .ensures, low, p .1 .0)) in
+    let cut = ap (bitAnd (k .result)) (c .before .before .before .bitmask .ensures) ∙ masked-low (k .result) (t .result)
+    (omega (arith, t .ensures, low, p .1 .0)) in
     λ st h e.
     solved-passes _ _ _ st _ _ h (a .answer .now) (a .pivot) (a .column) lp (p .0 .3) e (t .result) (k .result)
-    (t .ensures ∙ ap (twosIn (a .bitwidth)) (sym same)) (k .ensures) (sym cut ∙ c .before .before .if1 .left) (c .before .pivot-inverse .result) (c .multiplier .result)
+    (t .ensures ∙ ap (twosIn (a .bitwidth)) (sym same)) (k .ensures) (sym cut ∙ c .before .before .if1 .left) (c .before .pivot-inverse .result)
+    (c .multiplier .result)
     (c .before .pivot-inverse .ensures ∙ ap (λ (n : ℕ). inverse (n / 2 ^ t .result) (a .bitwidth - t .result)) (sym same)) (c .multiplier .ensures)))

@@ -24,7 +24,10 @@ substitute-spec =
     (λ c κs. search needs)
     (λ c. substituting-start _ _ _ _ _ _ _ (c .before .before .clear .ensures) (c .before .before .before .before .before .before .before .pre .0 .3))
     (λ c. search needs) (λ c. search needs)
-    (λ c. let b = c .before .before .before in omega (arith, c .before .before .before .before .before .before .before .before .before .before .before .pre .0 .2, b .loop .inv .within, c .before .before .loop-test .taken))
+    (λ c.
+    let b = c .before .before .before in
+    let s = b .before .before .before .before .before .before .before .before in
+    omega (arith, s .pre .0 .2, b .loop .inv .within, c .before .before .loop-test .taken))
     (λ c κs.
     let s = c .before .before .before .before .before .before .before .before .before .before .before in
     let p = s .pre in
@@ -35,12 +38,14 @@ substitute-spec =
     (λ c. search needs)
     (λ c.
     let b = c .before .before .before .before .before .before .before in
-    substituting-fails _ _ _ _ _ (b .loop .answer) _ (b .loop .column) (c .before .before .before .before .before .before .loop-test .taken) (b .loop .inv)
+    substituting-fails _ _ _ _ _ (b .loop .answer) _ (b .loop .column) (c .before .before .before .before .before .before .loop-test .taken)
+    (b .loop .inv)
     (λ st h e. subst (Solved _ _ st _ _ _) (not-true _ (c .if1 .taken)) (c .before .before .before .solve-column .ensures st h e)))
     (λ c. omega (arith, c .before .before .before .before .before .before .loop-test .taken))
     (λ c.
     let b = c .before .before .before .before .before .before .before in
-    substituting-step _ _ _ _ _ (b .loop .answer) _ (b .loop .column) (c .before .before .before .before .before .before .loop-test .taken) (b .loop .inv) (omega arith)
+    substituting-step _ _ _ _ _ (b .loop .answer) _ (b .loop .column) (c .before .before .before .before .before .before .loop-test .taken)
+    (b .loop .inv) (omega arith)
     (λ st h e. subst (Solved _ _ st _ _ _) (not-false _ (c .if1 .left)) (c .before .before .before .solve-column .ensures st h e)))
     (λ c. search needs)
     (λ c. let b = c .before in substituting-done _ _ _ _ _ (b .loop .answer) (b .loop .column) (b .loop .inv) (c .loop-test .left)))
