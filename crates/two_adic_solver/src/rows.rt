@@ -38,14 +38,14 @@ pub(crate) fn height(entry: u64, used: bool, bitwidth: u32) -> u32
 }
 
 // The row, if its height is below the least so far, else the row so far.
-fn lower_row(here: u32, least: u32, row: usize, so_far: usize) -> usize
+pub(crate) fn lower_row(here: u32, least: u32, row: usize, so_far: usize) -> usize
     ensures { λ r. ⌜ r ≡ cond (ltb here least) row «so_far» ⌝ }
 {
     if here < least { row } else { so_far }
 }
 
 // The lesser height.
-fn lower_height(here: u32, least: u32) -> u32
+pub(crate) fn lower_height(here: u32, least: u32) -> u32
     ensures { λ r. ⌜ r ≡ cond (ltb here least) here least ⌝ }
 {
     if here < least { here } else { least }
