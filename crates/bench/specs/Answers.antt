@@ -61,8 +61,3 @@ SaysText r t out w = (bs : List ℕ) (x : Content) → FedBy r t bs → Says bs 
 -- and what they are
 abbrev pub LeavesText : Reader → List ℕ → List ℕ → List ℕ → Type 0
 LeavesText r t out left = (bs : List ℕ) (x : Content) → FedBy r t bs → Says bs x → left ≡ printed (benchText x) out
-
--- the bytes that were written lie inside the buffer
-abbrev pub Inside : Written → List ℕ → Type 0
-Inside (Written.Bytes n) out = (n ≤ length out) × (n ≡ length (take n out))
-Inside Written.NoRoom out = Unit {0}

@@ -1,28 +1,22 @@
 -- What is printed of the bytes that were fed is what the layout says of them.
 use mathlib.Core.Path.{_≡_, refl, sym, _∙_, ap, ap₂, subst}
-use mathlib.Core.Bool.{Bool, true, false, cond}
-use mathlib.Core.List.{List, [], _++_}
+use mathlib.Core.List.{List}
 use Prim.Native.Nat.{ℕ, _+_, _-_, _≤_, _<_, min}
 use mathlib.Core.Logic.{⊎-elim}
 use native.Mathlib.Omega.{arith}
-use lib.ListN.{length, take, drop, replicate, length-drop, length-take, length-replicate}
-use lib.Dec.{leb}
-use borrow.Author.Tests.{leb-true}
-use lib.Seq.{sets, take-all, length-sets, length-take-le}
+use lib.ListN.{length, take, drop, replicate, length-drop, length-replicate}
+use lib.Seq.{take-all}
 use Rattle.meaning.specs.Tables.{at}
-use Rattle.bench_file.specs.Layout.{Head, Content, Says, says-ill-head, says-ill-values, says-whole, GoodHead, ill-head, ill-values, whole, benchText}
-use Rattle.bench_file.specs.Steps.{State, state, noneRead, fed, headOf, readingOf}
-use Rattle.bench_file.specs.StepLaws.{fed-append}
+use Rattle.bench_file.specs.Layout.{Head, Content, Says, says-ill-values, says-whole, GoodHead, ill-head, ill-values, whole, benchText}
+use Rattle.bench_file.specs.Steps.{State, state, headOf, readingOf}
 use Rattle.bench_file.specs.Reading.{ReadAs, read-ill-head, read-ill-values, read-whole}
 use Rattle.bench_file.specs.ReaderLaws.{read-as}
 use Rattle.bench_file.specs.HeadLines.{lt-or-ge}
 use Rattle.bench_file.specs.OneContent.{one-content}
 use Rattle.bench_file.specs.Verdict.{lowered}
-use Rattle.bench_file.specs.Printed.{printedSize}
 use Rattle.bench_file.specs.declared.reader.Reading.{Reading}
 use Rattle.bench_file.specs.declared.reader.Reader.{Reader}
-use Rattle.bench_file.specs.declared.answer.Written.{Written}
-use Rattle.bench.specs.Answers.{Inside, asked, lowHead, textOf, FedBy, Led}
+use Rattle.bench.specs.Answers.{asked, lowHead, textOf, FedBy}
 use Rattle.bench.specs.AnswerLaws.{text-ill-head, text-ill-values, text-whole}
 
 -- the parts of the reader's table of numbers, as the calls take them
@@ -77,13 +71,3 @@ module _ (r : Reader) (t bs : List ℕ) (x : Content) (led : FedBy r t bs) (says
   text-says =
       by-reading (readingOf r)
       (subst (λ (s : State). ReadAs t₀ bs s (readingOf (s .reader))) (sym led) (read-as t₀ bs))
-
--- a text that was written lies inside its buffer
-pub inside : (text out after : List ℕ) → length after ≡ length out → Inside (printedSize text out) after
-inside text out after same = go (leb (length text) (length out)) refl
-  where
-    go : (b : Bool) → leb (length text) (length out) ≡ b → Inside (cond b (Written.Bytes (length text)) Written.NoRoom) after
-    go true e =
-        let fits : length text ≤ length after = omega (arith, leb-true (length text) (length out) e, same) in
-        (fits, sym (length-take-le (length text) after fits))
-    go false e = tt

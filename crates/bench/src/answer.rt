@@ -8,7 +8,7 @@ ghost use Rattle.meaning.specs.Calls.{reply};
 ghost use Rattle.answers.specs.Said.{said};
 ghost use Rattle.bench_file.specs.Layout.{headNumber};
 ghost use Rattle.bench_file.specs.Printed.{printed, printedSize};
-ghost use Rattle.bench.specs.Answers.{asked, textFor, recoveredText, textOf, lowHead, SaysText, LeavesText, Inside};
+ghost use Rattle.bench.specs.Answers.{asked, textFor, recoveredText, textOf, lowHead, SaysText, LeavesText};
 use answers::Number;
 use answers::Refusal;
 use bench_file::answer::Written;
@@ -84,9 +84,10 @@ fn recover_text(
     write_answer(number, degree, support.len() as u8, coefficients, out)
 }
 
-// Room for the coefficients of the largest box.
-fn cell_room() -> [u64; 4096]
-    ensures { λ r. ⌜ 4096 ≡ length r ⌝ }
+// Zeros for the values, or the coefficients, of the largest box.
+pub(crate) fn cell_room() -> [u64; 4096]
+    ensures size { λ r. ⌜ 4096 ≡ length r ⌝ }
+    ensures zeros { λ r. ⌜ r ≡ replicate 4096 0 ⌝ }
 {
     [0u64; 4096]
 }
@@ -165,7 +166,6 @@ pub(crate) fn answer_text(reader: Reader, values: &[u64], out: &mut [u8]) -> Wri
     requires { ⌜ length (now values) ≡ 4096 ⌝ }
     ensures says { λ r. ⌜ SaysText reader (now (values .entry)) (now (out .entry)) r ⌝ }
     ensures leaves { λ r. ⌜ LeavesText reader (now (values .entry)) (now (out .entry)) (now (out .exit)) ⌝ }
-    ensures inside { λ r. ⌜ Inside r (now (out .exit)) ⌝ }
 {
     let head = reader.head;
     let count = reader.count;

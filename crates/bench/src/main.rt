@@ -3,6 +3,7 @@
 ghost use lib.ListN.{length};
 ghost use mathlib.Core.Path.{_≡_};
 ghost use Rattle.bench.specs.Answers.{Led};
+ghost use Rattle.bench.specs.Endings.{Answered};
 
 mod answer;
 
@@ -64,22 +65,38 @@ fn print(text: &[u8]) {
     }
 }
 
-fn main() {
-    let mut values = [0u64; 4096];
+// What became of the input: a text of so many bytes, or nothing, since it could not be read to its end.
+enum Ending {
+    Text(usize),
+    Unread,
+}
+
+// Reads standard input and writes its answer to the buffer.
+fn answer_input(out: &mut [u8]) -> Ending
+    requires { ⌜ length (now out) ≡ 1122347 ⌝ }
+    ensures { λ r. ⌜ Answered r (now (out .entry)) (now (out .exit)) ⌝ }
+{
+    let mut values = answer::cell_room();
     let input = read_input(&mut values);
     if !input.whole {
-        io::write_all(
-            libc::STDERR_FILENO,
-            b"bench: standard input could not be read to its end\n",
-        );
-        return;
+        return Ending::Unread;
     }
     let reader = input.reader;
+    match answer::answer_text(reader, &values, out) {
+        Written::Bytes(size) => Ending::Text(size),
+        Written::NoRoom => Ending::Unread,
+    }
+}
+
+fn main() {
     let mut out = text_room();
-    match answer::answer_text(reader, &values, &mut out) {
-        Written::Bytes(size) => print(&out[..size]),
-        Written::NoRoom => {
-            io::write_all(libc::STDERR_FILENO, b"bench: no room for the answer\n");
+    match answer_input(&mut out) {
+        Ending::Text(size) => print(&out[..size]),
+        Ending::Unread => {
+            io::write_all(
+                libc::STDERR_FILENO,
+                b"bench: standard input could not be read to its end\n",
+            );
         }
     }
 }
