@@ -2,5 +2,6 @@
 // refusal. A slice crosses as a pointer and then a length.
 pub mod arithmetic;
 pub mod boxes;
+pub mod bytes;
 pub mod keys;
 pub mod leaves;
