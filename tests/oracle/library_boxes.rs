@@ -85,3 +85,28 @@ pub mod singletons {
         );
     }
 }
+
+pub mod systems {
+    calls! {
+        cobra_solve_2adic(
+            matrix: *mut u64, matrix_len: usize, right: *mut u64, right_len: usize,
+            columns: usize, width: u32, answer: *mut u64, answer_len: usize,
+        );
+        cobra_solve_2adic_fixed(
+            matrix: *const u64, matrix_len: usize, right: *const u64, right_len: usize,
+            width: u32, answer: *mut u64, answer_len: usize,
+        );
+    }
+}
+
+pub mod fit {
+    calls! {
+        cobra_recover_weighted_poly(
+            weights: *const u64, weights_len: usize, targets: *const u64, targets_len: usize,
+            support: *const u64, support_len: usize, total: u32, width: u32,
+            max_degree: u8, grid_degree: u8, matrix: *mut u64, matrix_len: usize,
+            right: *mut u64, right_len: usize, out: *mut u64, out_len: usize,
+            degree_used: *mut u64,
+        );
+    }
+}

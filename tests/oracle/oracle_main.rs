@@ -7,6 +7,7 @@ mod conversions;
 mod core;
 mod definitions;
 mod demand3;
+mod fit;
 mod group;
 mod ir;
 mod judge;
@@ -22,6 +23,7 @@ mod reference;
 mod rows;
 mod settings;
 mod singletons;
+mod systems;
 
 use group::{first_difference, Group};
 use judge::{judge, Failure, Plant};
@@ -41,6 +43,8 @@ fn groups() -> Vec<(&'static Group, bool)> {
     groups.extend(conversions::GROUPS);
     groups.extend(recovery::GROUPS);
     groups.extend(singletons::GROUPS);
+    groups.extend(systems::GROUPS);
+    groups.extend(fit::GROUPS);
     groups.extend(demand3::GROUPS);
     groups
 }
@@ -61,7 +65,7 @@ struct Options {
 fn usage(why: &str) -> ! {
     eprintln!("oracle: {why}");
     eprintln!("usage: run [--seed N] [--cases N] [--only GROUP] [--numbers] [--complete] [--selftest]");
-    eprintln!("   or: run --sample leaves|conversions|recovery [--cases-only|--answers-only]");
+    eprintln!("   or: run --sample leaves|conversions|recovery|systems [--cases-only|--answers-only]");
     exit(2)
 }
 

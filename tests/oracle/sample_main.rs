@@ -13,12 +13,13 @@ mod random;
 mod reference;
 mod sample;
 mod sample_boxes;
+mod sample_systems;
 mod settings;
 
 use sample::Printed;
 
 fn usage() -> ! {
-    eprintln!("usage: run --sample leaves|conversions|recovery [--cases-only|--answers-only]");
+    eprintln!("usage: run --sample leaves|conversions|recovery|systems [--cases-only|--answers-only]");
     std::process::exit(2)
 }
 
@@ -35,6 +36,7 @@ fn main() {
         "leaves" => sample::print_leaves(printed),
         "conversions" => sample_boxes::print_conversions(printed),
         "recovery" => sample_boxes::print_recovery(printed),
+        "systems" => sample_systems::print_systems(printed),
         _ => usage(),
     }
 }

@@ -1,5 +1,5 @@
-//! Times the Rust program, the project's static library and, for recovery, a plain C version, on the
-//! same inputs in one run. README.md says what is timed.
+//! Times the Rust program, the project's static library and, for recovery and the fit, a plain C version,
+//! on the same inputs in one run. README.md says what is timed.
 
 #![allow(dead_code)]
 
@@ -7,6 +7,7 @@
 mod boxes;
 #[path = "../oracle/core.rs"]
 mod core;
+mod fits;
 #[path = "../oracle/group.rs"]
 mod group;
 #[path = "../oracle/ir.rs"]
@@ -122,6 +123,7 @@ fn main() {
         let shapes = [&SMALL[..], &CELLS_4096, &CELLS_65536].concat();
         shapes.iter().for_each(|&shape| row(Call::Recovery, shape, width, quick));
     }
+    fits::table(quick);
 }
 
 /// Times one call on one input and prints its line. Other answers than the Rust's end the run.

@@ -3,5 +3,7 @@
 pub mod arithmetic;
 pub mod boxes;
 pub mod bytes;
+pub mod fit;
 pub mod keys;
 pub mod leaves;
+pub mod systems;

@@ -13,7 +13,7 @@ use Rattle.meaning.specs.Polynomials.{Polynomial, polynomialAt, PolynomialAgree
 use Rattle.theory.specs.Every.{Failing}
 use Rattle.theory.specs.Integers.{residue-boxAt}
 use Rattle.theory.specs.GridRecovery.{Cells, Passes, solutions, tableTotal, solutions-bounded, solutions-agree, passes-of-agrees, agrees-same, bounded-disagrees, passes-total, solutions-total}
-use Rattle.theory.specs.WholeNumbers.{fallingBox, powerPolynomial, residue-polynomialAt, polynomial-agrees-iff, powerPolynomial-agrees-iff}
+use Rattle.theory.specs.WholeNumbers.{polynomialBox, powerPolynomial, residue-polynomialAt, polynomial-agrees-iff, powerPolynomial-agrees-iff}
 
 module _ {m : ℕ} (positive : 0 < m) (o : Cells m) (ds v : List ℕ) where
   -- 1, 2: every difference passes exactly when some polynomial agrees with the grid modulo m
@@ -22,7 +22,7 @@ module _ {m : ℕ} (positive : 0 < m) (o : Cells m) (ds v : List ℕ) where
     λ h.
         let p : Polynomial ds = powerPolynomial m ds (solutions o ds v) in
         (p, powerPolynomial-agrees-iff positive ds (solutions o ds v) v .1 (solutions-agree positive o ds v h)),
-    λ s. passes-of-agrees positive o ds (fallingBox m ds (s .0)) v (polynomial-agrees-iff positive ds (s .0) v .0 (s .1)),
+    λ s. passes-of-agrees positive o ds (polynomialBox m ds (s .0)) v (polynomial-agrees-iff positive ds (s .0) v .0 (s .1)),
   )
 
   -- 3: the answer is bounded, and where every difference passes it has at every point the value of every polynomial that agrees
@@ -33,7 +33,7 @@ module _ {m : ℕ} (positive : 0 < m) (o : Cells m) (ds v : List ℕ) where
       → residue m (boxAt ds (solutions o ds v) zs) ≡ residue m (polynomialAt ds p zs)
   answer-values p a zs =
       residue-boxAt positive ds (solutions o ds v) zs
-      ∙ agrees-same positive o ds (solutions o ds v) v (solutions-agree positive o ds v (passes-iff .1 (p, a))) (fallingBox m ds p) (map (residue m) zs)
+      ∙ agrees-same positive o ds (solutions o ds v) v (solutions-agree positive o ds v (passes-iff .1 (p, a))) (polynomialBox m ds p) (map (residue m) zs)
       (polynomial-agrees-iff positive ds p v .0 a)
       ∙ sym (residue-polynomialAt positive ds p zs)
 

@@ -32,14 +32,14 @@ fn difference_twice(part: &mut [u64], low: usize)
 {
     let mut number = part[low - 1];
     let mut once = 0;
-    let mut i = low;
-    while i < part.len() {
-        let next = part[i];
+    let mut place = low;
+    while place < part.len() {
+        let next = part[place];
         let difference = arith::wrapping_sub(next, number);
-        part[i] = arith::wrapping_sub(difference, once);
+        part[place] = arith::wrapping_sub(difference, once);
         number = next;
         once = difference;
-        i += 1;
+        place += 1;
     }
 }
 

@@ -47,7 +47,7 @@ fn index_twice(support: &[u64], total: u32) -> bool
 }
 
 // The cells of a box, or 65,537 where there are more than 65,536.
-fn count_cells(degrees: &[u8]) -> u64
+pub fn count_cells(degrees: &[u8]) -> u64
     ensures { λ r. ⌜ r ≡ min (cells (now (degrees .entry))) 65537 ⌝ }
 {
     let mut count: u64 = 1;

@@ -6,7 +6,7 @@ ghost use Rattle.answers.specs.Said.{said, saidNumber, saidTruth};
 ghost use Rattle.poly.specs.Forms.{cubeForm};
 
 mod cells;
-mod checks;
+pub mod checks;
 
 use answers::Number;
 use answers::Outcome;

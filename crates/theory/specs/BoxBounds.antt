@@ -16,8 +16,9 @@ use Rattle.meaning.specs.Values.{weight, bound, boxTotal, boxReduced}
 use Rattle.meaning.specs.Recovery.{every}
 use Rattle.theory.specs.Tables.{Filled, filled-done, at-tabulate, length-tabulate, tabulate-cong}
 use Rattle.theory.specs.Words.{low-bits}
-use Rattle.theory.specs.LastVariable.{others, bound-last, part, at-part}
-use Rattle.theory.specs.Walks.{Walk, walk-exponent, walk-fits, put, filled-part}
+use Rattle.theory.specs.LastVariable.{others, bound-last}
+use Rattle.theory.specs.Parts.{part, part-entry, put, filled-part}
+use Rattle.theory.specs.Walks.{Walk, walk-exponent, walk-fits}
 
 pub every-cong : (n : ℕ) {p q : ℕ → Bool} → ((i : ℕ) → i < n → p i ≡ q i) → every n p ≡ every n q
 unfolding every
@@ -49,7 +50,7 @@ pub every-block : (w : ℕ) {ds : List ℕ} (c : List ℕ) {n size e from : ℕ}
     ≡ every (cells (others ds)) (isBelow (w - twos (factorial e)) (others ds) (part from (from + size) c))
 every-block w {ds} c {n} {size} {e} {from} k h =
     every-cong size
-    (λ i r. ap₂ ltb (sym (at-part from (from + size) c i (omega arith)))
+    (λ i r. ap₂ ltb (sym (part-entry from (from + size) c i (omega arith)))
     (ap (λ (n : ℕ). bound w (digits ds (n + i))) (k .place ∙ ap (e *_) (k .sized))
     ∙ bound-last ds (k .filled) e i (walk-exponent k h) (rw (k .sized) at r) w))
     ∙ ap (λ (j : ℕ). every j (isBelow (w - twos (factorial e)) (others ds) (part from (from + size) c))) (k .sized)
@@ -121,21 +122,23 @@ module _ (w : ℕ) (ds c : List ℕ) where
   -- a sub-box more: its entries are those of the part, at the width less the twos of its last exponent
   pub reduced-next : {n size e from : ℕ} {out : List ℕ} → Walk ds n size e from → from < n → length out ≡ n → Filled (reducedAt w ds c) c out from
       → {left : ℕ} {ys : List ℕ} → left ≡ w - twos (factorial e) → ys ≡ boxReduced (bound left) (others ds) (part from (from + size) out)
-      → Filled (reducedAt w ds c) c (put from (from + size - from) out ys) (from + size)
+      → Filled (reducedAt w ds c) c (put from (from + size) out ys) (from + size)
   unfolding boxReduced
   reduced-next {n} {size} {e} {from} {out} k h l r {left} {ys} p q =
       let s : from + size - from ≡ size = omega arith in
       let long : length ys ≡ size = ap length q ∙ length-tabulate (cells (others ds)) _ ∙ sym (k .sized) in
-      rw s
-      (filled-part from size out ys (omega (arith, walk-fits k h)) long (reducedAt w ds c) c r
+      filled-part (reducedAt w ds c) c out from (from + size) ys r (omega arith) (omega (arith, walk-fits k h)) (long ∙ sym s)
       (λ i t.
       ap (λ (z : List ℕ). at z i) q
-      ∙ at-tabulate (cells (others ds)) _ i (rw (k .sized) at t)
-      ∙ ap₂ _%_ (at-part from (from + size) out i (omega arith) ∙ r .above (from + i) (omega arith))
+      ∙ at-tabulate (cells (others ds)) _ i (inside t)
+      ∙ ap₂ _%_ (part-entry from (from + size) out i (omega arith) ∙ r .above (from + i) (omega arith))
       (sym
       (ap (λ (n : ℕ). bound w (digits ds (n + i))) (k .place ∙ ap (e *_) (k .sized))
-      ∙ bound-last ds (k .filled) e i (walk-exponent k h) (rw (k .sized) at t) w
-      ∙ ap (λ (j : ℕ). bound j (digits (others ds) i)) (sym p)))))
+      ∙ bound-last ds (k .filled) e i (walk-exponent k h) (inside t) w
+      ∙ ap (λ (j : ℕ). bound j (digits (others ds) i)) (sym p))))
+    where
+      inside : {i : ℕ} → i < from + size - from → i < cells (others ds)
+      inside {i} t = let small : i < size = omega (arith, t) in rw (k .sized) at small
 
   -- none is left
   pub reduced-done : {from : ℕ} {out : List ℕ} → length c ≡ cells ds → length c ≤ from → Filled (reducedAt w ds c) c out from

@@ -15,7 +15,8 @@ use Rattle.meaning.specs.Values.{product, value}
 use Rattle.theory.specs.Congruence.{Cong, cong-of-eq, cong-refl, cong-trans, cong-add, cong-mul, mod-cong}
 use Rattle.theory.specs.Sums.{sum-last}
 use Rattle.theory.specs.Words.{masked-to}
-use Rattle.theory.specs.LastVariable.{others, addend, value-last, part}
+use Rattle.theory.specs.LastVariable.{others, addend, value-last}
+use Rattle.theory.specs.Parts.{part}
 use Rattle.theory.specs.Walks.{Walk, walk-done}
 
 -- without variables it is the one coefficient

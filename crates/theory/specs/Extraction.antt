@@ -1,12 +1,11 @@
 -- From a difference to its coefficient, variable by variable, the last variable first. Of the exponents hs of the last variables the weight is
 -- known, cut at the width, and the inverse of the odd factor modulo 2^64; one exponent more adds to the first and multiplies the second.
 use mathlib.Core.Path.{_≡_, refl, sym, _∙_, ap, ap₂}
-use mathlib.Core.List.{List, [], _∷_, _++_}
+use mathlib.Core.List.{List, [], _∷_, _++_, append-assoc}
 use Prim.Native.Nat.{ℕ, suc, _+_, _*_, _-_, _/_, _%_, _^_, _≤_, _<_, min}
 use native.Mathlib.Nat.{mod-eq-of-lt, mod-lt, mod-one, one-mul, mul-comm, zero-lt-suc, div-lt-iff-lt-mul, div-add-mod', lt-of-not-le, mul-mul-mul-comm, mul-assoc}
 use native.Mathlib.Decide.{decLe}
 use native.Mathlib.Omega.{arith}
-use lib.Arith.{digits-div, digits-mod}
 use lib.Dec.{eqb}
 use lib.Pow.{pow-pos}
 use Rattle.meaning.specs.Factorials.{factorial, twos, oddPart}
@@ -19,39 +18,18 @@ use Rattle.theory.specs.Binomials.{factorial-pos}
 use Rattle.theory.specs.Twos.{oddPart-odd, odd-mul}
 use Rattle.theory.specs.Inverses.{inverse-serves, inverse-unique, inverse-cut}
 use Rattle.theory.specs.Widths.{oddFactor-odd}
+use Rattle.theory.specs.LastVariable.{cells-snoc, digits-snoc}
 
 -- ---- the last variable
 
 -- the sub-boxes of the last variable lie one after the other
 pub cells-last : (ds : List ℕ) (d : ℕ) → cells (ds ++ (d ∷ [])) ≡ suc d * cells ds
-unfolding cells
-cells-last [] d = omega arith
-cells-last (a ∷ ds) d = ap (_* suc a) (cells-last ds d) ∙ regroup (suc d) (cells ds) (suc a)
-  where
-    regroup : (x y z : ℕ) → x * y * z ≡ x * (y * z)
-    regroup x y z = omega arith
+cells-last ds d = cells-snoc ds d ∙ mul-comm (cells ds) (suc d)
 
 -- cell r of sub-box e, with further exponents behind
 pub digits-last : (ds : List ℕ) (d e r : ℕ) (hs : List ℕ) → e ≤ d → r < cells ds
     → digits (ds ++ (d ∷ [])) (e * cells ds + r) ++ hs ≡ digits ds r ++ (e ∷ hs)
-unfolding digits cells
-digits-last [] d e r hs h l =
-    let z : e * 1 + r ≡ e = omega arith in
-    ap (_∷ hs) (ap (_% suc d) z ∙ mod-eq-of-lt (omega arith))
-digits-last (a ∷ ds) d e r hs h l =
-    ap₂ _∷_ low (ap (λ (n : ℕ). digits (ds ++ (d ∷ [])) n ++ hs) high ∙ digits-last ds d e (r / suc a) hs h within)
-  where
-    within : r / suc a < cells ds
-    within = div-lt-iff-lt-mul (zero-lt-suc a) .1 l
-
-    parts : e * (cells ds * suc a) + r ≡ (e * cells ds + r / suc a) * suc a + r % suc a
-    parts = omega (arith, div-add-mod' r (suc a))
-
-    low : (e * (cells ds * suc a) + r) % suc a ≡ r % suc a
-    low = ap (_% suc a) parts ∙ digits-mod (e * cells ds + r / suc a) (mod-lt r (zero-lt-suc a))
-
-    high : (e * (cells ds * suc a) + r) / suc a ≡ e * cells ds + r / suc a
-    high = ap (_/ suc a) parts ∙ digits-div (e * cells ds + r / suc a) (mod-lt r (zero-lt-suc a))
+digits-last ds d e r hs h l = ap (_++ hs) (digits-snoc ds d e r h l) ∙ append-assoc (digits ds r) (e ∷ []) hs
 
 -- ---- one exponent more
 

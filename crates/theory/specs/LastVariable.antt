@@ -7,8 +7,8 @@ use native.Mathlib.Nat.{le-of-suc-le-suc, zero-lt-suc, mod-lt, mod-eq-of-lt, mul
 use native.Mathlib.Numerals.{add-one}
 use native.Mathlib.Omega.{arith}
 use lib.Arith.{digits-div, digits-mod, lt-one}
-use lib.ListN.{length, take, drop, length-drop}
-use lib.Seq.{take-suc, take-length, length-take-le, getD-take, getD-drop}
+use lib.ListN.{length, take, drop}
+use lib.Seq.{take-suc, take-length, length-take-le, getD-drop}
 use Rattle.meaning.specs.Tables.{at}
 use Rattle.meaning.specs.Sums.{sum}
 use Rattle.meaning.specs.Factorials.{factorial, falling, twos}
@@ -17,15 +17,18 @@ use Rattle.meaning.specs.Values.{product, value, weight, bound}
 use Rattle.theory.specs.Congruence.{Cong, cong-of-eq, cong-sym, cong-trans, cong-mul-left, mod-cong}
 use Rattle.theory.specs.Sums.{sum-eq, sum-cong, sum-mul-left, sum-blocks}
 use Rattle.theory.specs.Boxes.{length-digits}
+use Rattle.theory.specs.Parts.{part, part-entry}
 
 -- ---- a variable at the end
 
-cells-snoc : (ds : List ℕ) (d : ℕ) → cells (ds ++ (d ∷ [])) ≡ cells ds * suc d
+-- the sub-boxes of the last variable lie one after the other
+pub cells-snoc : (ds : List ℕ) (d : ℕ) → cells (ds ++ (d ∷ [])) ≡ cells ds * suc d
 unfolding cells
 cells-snoc [] d = refl
 cells-snoc (x ∷ xs) d = simp (cells-snoc xs d) (omega arith)
 
-digits-snoc : (ds : List ℕ) (d e r : ℕ) → e ≤ d → r < cells ds → digits (ds ++ (d ∷ [])) (e * cells ds + r) ≡ digits ds r ++ (e ∷ [])
+-- cell r of sub-box e
+pub digits-snoc : (ds : List ℕ) (d e r : ℕ) → e ≤ d → r < cells ds → digits (ds ++ (d ∷ [])) (e * cells ds + r) ≡ digits ds r ++ (e ∷ [])
 unfolding digits cells
 digits-snoc [] d e r h p =
     let z : r ≡ 0 = lt-one p in
@@ -56,17 +59,6 @@ product-snoc f xs (y ∷ ys) e =
   where
     one-add : (n : ℕ) → 1 + n ≡ suc n
     one-add n = omega arith
-
--- the part of a table from one place up to another
-abbrev pub part : ℕ → ℕ → List ℕ → List ℕ
-part from end t = take (end - from) (drop from t)
-
-pub length-part : (from end : ℕ) (t : List ℕ) → end ≤ length t → length (part from end t) ≡ end - from
-length-part from end t h = length-take-le (end - from) (drop from t) (simp length-drop (omega arith))
-
--- an entry of a part
-pub at-part : (from end : ℕ) (t : List ℕ) (i : ℕ) → i < end - from → at (part from end t) i ≡ at t (from + i)
-at-part from end t i h = getD-take (end - from) (drop from t) i 0 h ∙ getD-drop from t i 0
 
 -- ---- the last variable and the others
 
@@ -148,7 +140,7 @@ value-last m ds c xs h =
         cong-trans
         (cong-of-eq m
         (sum-eq size {g = λ j. x * G j}
-        (λ j q. ap₂ _*_ (product-last ds h e j p q falling xs) (sym (at-part (e * size) (e * size + size) c j (omega arith)))
+        (λ j q. ap₂ _*_ (product-last ds h e j p q falling xs) (sym (part-entry (e * size) (e * size + size) c j (omega arith)))
         ∙ mul-assoc x (product falling (length (others ds)) xs (digits (others ds) j)) (at t j))
         ∙ sum-mul-left size x G))
         (cong-mul-left x (cong-sym (mod-cong m (sum size G))))

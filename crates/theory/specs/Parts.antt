@@ -18,12 +18,16 @@ part a e t = take (e - a) (drop a t)
 abbrev pub put : ℕ → ℕ → List ℕ → List ℕ → List ℕ
 put a e t ys = take a t ++ (ys ++ drop (e - a) (drop a t))
 
+-- an entry of the part, where the table may be shorter
+pub part-entry : (a e : ℕ) (t : List ℕ) (i : ℕ) → i < e - a → at (part a e t) i ≡ at t (a + i)
+part-entry a e t i h = getD-take (e - a) (drop a t) i 0 h ∙ getD-drop a t i 0
+
 module _ (a e : ℕ) (t : List ℕ) (fits : e ≤ length t) where
   pub length-part : length (part a e t) ≡ e - a
   length-part = simp (length-take, length-drop) (omega arith)
 
   pub at-part : (i : ℕ) → i < e - a → at (part a e t) i ≡ at t (a + i)
-  at-part i h = rw (getD-take, getD-drop)
+  at-part = part-entry a e t
 
   module _ (order : a ≤ e) (ys : List ℕ) (same : length ys ≡ e - a) where
     start : length (take a t) ≡ a

@@ -27,8 +27,8 @@ use Rattle.theory.specs.PowerBoxes.{gathered, polynomialOf, residue-term
 use Rattle.theory.specs.DemandThree.{answer-agrees, accepts-of-agrees, same-values}
 
 -- the polynomial's coefficients of the falling factorials modulo m
-unfoldable pub fallingBox : (m : ℕ) (ds : List ℕ) → Polynomial ds → List ℕ
-fallingBox m ds p = tabulate (cells ds) (λ n. along (fallingLine m) ds (gathered m (length ds) (p .terms)) (digits ds n))
+unfoldable pub polynomialBox : (m : ℕ) (ds : List ℕ) → Polynomial ds → List ℕ
+polynomialBox m ds p = tabulate (cells ds) (λ n. along (fallingLine m) ds (gathered m (length ds) (p .terms)) (digits ds n))
 
 -- the polynomial, in powers, of a box of coefficients of the falling factorials
 unfoldable pub powerPolynomial : (m : ℕ) (ds c : List ℕ) → Polynomial ds
@@ -42,14 +42,14 @@ residue-coordinates positive (x ∷ xs) (suc i) = residue-coordinates positive x
 
 module _ {m : ℕ} (positive : 0 < m) (ds : List ℕ) where
   -- a polynomial has the residues of its falling box at every whole-number point
-  pub residue-polynomialAt : (p : Polynomial ds) (zs : List ℤ) → residue m (polynomialAt ds p zs) ≡ value m ds (fallingBox m ds p) (map (residue m) zs)
-  unfolding polynomialAt fallingBox
+  pub residue-polynomialAt : (p : Polynomial ds) (zs : List ℤ) → residue m (polynomialAt ds p zs) ≡ value m ds (polynomialBox m ds p) (map (residue m) zs)
+  unfolding polynomialAt polynomialBox
   residue-polynomialAt p zs =
-      eq-of-cong (residue-lt positive (polynomialAt ds p zs)) (value-lt ds (fallingBox m ds p) xs positive)
+      eq-of-cong (residue-lt positive (polynomialAt ds p zs)) (value-lt ds (polynomialBox m ds p) xs positive)
       (cong-trans (residue-termsAt positive zs (p .within))
       (cong-trans (cong-sym (eval-falling-along ds a xs))
       (cong-trans (cong-of-eq m (eval-eq falling ds xs (λ es w. sym (entry-tabulate ds (along (fallingLine m) ds a) es w))))
-      (cong-sym (value-cong-eval m ds (fallingBox m ds p) xs)))))
+      (cong-sym (value-cong-eval m ds (polynomialBox m ds p) xs)))))
     where
       xs : List ℕ
       xs = map (residue m) zs
@@ -76,12 +76,12 @@ module _ {m : ℕ} (positive : 0 < m) (ds : List ℕ) where
       value-cong-point m ds c (map (residue m) (map pos (digits ds n))) (digits ds n) (λ i p. residue-coordinates positive (digits ds n) i)
 
   -- a polynomial agrees exactly when its falling box does
-  pub polynomial-agrees-iff : (p : Polynomial ds) (v : List ℕ) → PolynomialAgrees m ds p v ↔ Agrees m ds (fallingBox m ds p) v
+  pub polynomial-agrees-iff : (p : Polynomial ds) (v : List ℕ) → PolynomialAgrees m ds p v ↔ Agrees m ds (polynomialBox m ds p) v
   unfolding PolynomialAgrees Agrees
   polynomial-agrees-iff p v = (λ a n q. sym (same n) ∙ a n q, λ a n q. same n ∙ a n q)
     where
-      same : (n : ℕ) → residue m (polynomialAt ds p (map pos (digits ds n))) ≡ value m ds (fallingBox m ds p) (digits ds n)
-      same n = residue-polynomialAt p (map pos (digits ds n)) ∙ residue-digits (fallingBox m ds p) n
+      same : (n : ℕ) → residue m (polynomialAt ds p (map pos (digits ds n))) ≡ value m ds (polynomialBox m ds p) (digits ds n)
+      same n = residue-polynomialAt p (map pos (digits ds n)) ∙ residue-digits (polynomialBox m ds p) n
 
   -- a box agrees exactly when its polynomial does
   pub powerPolynomial-agrees-iff : (c v : List ℕ) → PolynomialAgrees m ds (powerPolynomial m ds c) v ↔ Agrees m ds c v
@@ -94,7 +94,7 @@ module _ {m : ℕ} (positive : 0 < m) (ds : List ℕ) where
 module _ (w : ℕ) (ds : List ℕ) where
   -- where a polynomial agrees, the table is accepted
   pub accepts-of-polynomial : (p : Polynomial ds) (v : List ℕ) → PolynomialAgrees (2 ^ w) ds p v → T (accepts w ds v)
-  accepts-of-polynomial p v a = accepts-of-agrees w ds (fallingBox (2 ^ w) ds p) v (polynomial-agrees-iff (pow-pos w) ds p v .0 a)
+  accepts-of-polynomial p v a = accepts-of-agrees w ds (polynomialBox (2 ^ w) ds p) v (polynomial-agrees-iff (pow-pos w) ds p v .0 a)
 
   -- where the table is accepted, the polynomial of the answer agrees
   pub polynomial-of-accepts : (v : List ℕ) → T (accepts w ds v) → PolynomialAgrees (2 ^ w) ds (powerPolynomial (2 ^ w) ds (answer w ds v)) v
@@ -115,6 +115,6 @@ module _ (w : ℕ) (ds : List ℕ) where
       → residue (2 ^ w) (boxAt ds (answer w ds v) zs) ≡ residue (2 ^ w) (polynomialAt ds p zs)
   answer-residue p v zs a =
       residue-boxAt (pow-pos w) ds (answer w ds v) zs
-      ∙ same-values w ds (answer w ds v) (fallingBox (2 ^ w) ds p) v (map (residue (2 ^ w)) zs)
+      ∙ same-values w ds (answer w ds v) (polynomialBox (2 ^ w) ds p) v (map (residue (2 ^ w)) zs)
       (answer-agrees w ds v (accepts-of-polynomial p v a)) (polynomial-agrees-iff (pow-pos w) ds p v .0 a)
       ∙ sym (residue-polynomialAt (pow-pos w) ds p zs)

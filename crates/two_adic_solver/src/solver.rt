@@ -81,19 +81,57 @@ fn solve_with(
     Outcome::Refused(Refusal::NoAnswer)
 }
 
-// No row is marked.
-fn no_marks() -> [bool; 65536]
-    ensures { λ r. ⌜ ((i : ℕ) → getD r i false ≡ false) ⌝ }
+// A system that fits, with room for 1,024 rows and columns.
+fn solve_small(
+    matrix: &mut [u64],
+    right: &mut [u64],
+    columns: usize,
+    bitwidth: u32,
+    answer: &mut [u64],
+) -> Outcome
+    requires { ⌜ (length (now matrix) ≡ length (now right) * columns) × (length (now matrix) ≤ 65536) × (columns ≤ 1024) × (length (now answer) ≡ columns) ⌝ }
+    requires { ⌜ (length (now right) ≤ 1024) × (bitwidth ≤ 64) ⌝ }
+    ensures { λ r. ⌜ Finished bitwidth columns (now (matrix .entry)) (now (right .entry)) (now (matrix .exit)) (now (right .exit)) (now (answer .exit)) (saidNumber r) ⌝ }
 {
-    [false; 65536]
+    let mut used = [false; 1024];
+    let mut pivots = [0; 1024];
+    solve_with(
+        matrix,
+        right,
+        &mut used,
+        &mut pivots,
+        columns,
+        bitwidth,
+        answer,
+    )
 }
 
-// Room for each column's pivot row.
-fn no_rows() -> [usize; 65536] {
-    [0; 65536]
+// The same with room for 65,536.
+fn solve_large(
+    matrix: &mut [u64],
+    right: &mut [u64],
+    columns: usize,
+    bitwidth: u32,
+    answer: &mut [u64],
+) -> Outcome
+    requires { ⌜ (length (now matrix) ≡ length (now right) * columns) × (length (now matrix) ≤ 65536) × (columns ≤ 65536) × (length (now answer) ≡ columns) ⌝ }
+    requires { ⌜ (length (now right) ≤ 65536) × (bitwidth ≤ 64) ⌝ }
+    ensures { λ r. ⌜ Finished bitwidth columns (now (matrix .entry)) (now (right .entry)) (now (matrix .exit)) (now (right .exit)) (now (answer .exit)) (saidNumber r) ⌝ }
+{
+    let mut used = [false; 65536];
+    let mut pivots = [0; 65536];
+    solve_with(
+        matrix,
+        right,
+        &mut used,
+        &mut pivots,
+        columns,
+        bitwidth,
+        answer,
+    )
 }
 
-// A system that fits.
+// A system that fits, with the room that it needs.
 fn solve_fitting(
     matrix: &mut [u64],
     right: &mut [u64],
@@ -105,17 +143,12 @@ fn solve_fitting(
     requires { ⌜ (length (now right) ≤ 65536) × (bitwidth ≤ 64) ⌝ }
     ensures { λ r. ⌜ Finished bitwidth columns (now (matrix .entry)) (now (right .entry)) (now (matrix .exit)) (now (right .exit)) (now (answer .exit)) (saidNumber r) ⌝ }
 {
-    let mut used = no_marks();
-    let mut pivots = no_rows();
-    solve_with(
-        matrix,
-        right,
-        &mut used,
-        &mut pivots,
-        columns,
-        bitwidth,
-        answer,
-    )
+    if right.len() <= 1024 {
+        if columns <= 1024 {
+            return solve_small(matrix, right, columns, bitwidth, answer);
+        }
+    }
+    solve_large(matrix, right, columns, bitwidth, answer)
 }
 
 // Solves a system of equations modulo 2^bitwidth. The matrix has its rows one behind the other, each of `columns` entries; the row count is its length

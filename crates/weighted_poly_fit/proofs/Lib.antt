@@ -7,3 +7,8 @@ pub mod Entries
 pub mod Coordinates
 pub mod MatrixRows
 pub mod FitMatrix
+pub mod ExponentLists
+pub mod AnswerBox
+pub mod FitSystems
+pub mod FitAnswers
+pub mod FitCalls

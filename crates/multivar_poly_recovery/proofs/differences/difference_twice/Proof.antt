@@ -7,10 +7,10 @@ use Rattle.multivar_poly_recovery.proofs.differences.difference_twice.S
 use Rattle.multivar_poly_recovery.proofs.differences.difference_twice.Tie as tie
 
 abbrev Inv-loop : tie.InvT-loop
-Inv-loop part₀ low number₀ once₀ i₀ part number once i = Twice low part₀ part number once i
+Inv-loop part₀ low number₀ once₀ place₀ part number once place = Twice low part₀ part number once place
 
 abbrev μ-loop : tie.MeasureT-loop
-μ-loop part₀ low number₀ once₀ i₀ part number once i = length part₀ - i
+μ-loop part₀ low number₀ once₀ place₀ part number once place = length part₀ - place
 
 pub difference-twice-spec : {M : Type 1} → statement M
 difference-twice-spec =
@@ -24,7 +24,7 @@ difference-twice-spec =
     (λ c. omega (arith, c .before .before .before .loop-test .taken, c .before .before .before .before .loop .inv .same))
     (λ c.
     let b = c .before .before .before .before in
-    twice-step _ _ (b .loop .part) _ _ (b .loop .i) _ _ (b .loop .inv) (c .before .before .before .loop-test .taken)
+    twice-step _ _ (b .loop .part) _ _ (b .loop .place) _ _ (b .loop .inv) (c .before .before .before .loop-test .taken)
     (c .before .wrapping-sub .ensures) (c .wrapping-sub2 .ensures))
     (λ c. c .before .loop .inv .same)
-    (λ c. let b = c .before in twice-done _ _ (b .loop .part) _ _ (b .loop .i) (b .loop .inv) (c .loop-test .left)))
+    (λ c. let b = c .before in twice-done _ _ (b .loop .part) _ _ (b .loop .place) (b .loop .inv) (c .loop-test .left)))

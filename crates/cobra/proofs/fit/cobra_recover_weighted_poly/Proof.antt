@@ -1,0 +1,13 @@
+use borrow.Author.Needs.{needs}
+use mathlib.Core.Path.{_∙_}
+use Rattle.cobra.proofs.fit.cobra_recover_weighted_poly.Statement.{statement}
+use Rattle.cobra.proofs.fit.cobra_recover_weighted_poly.Tie as tie
+
+pub cobra-recover-weighted-poly-spec : {M : Type 1} → statement M
+cobra-recover-weighted-poly-spec =
+    tie.close
+    (tie.spec
+    (λ c κs. search needs) (λ c κs. search needs) (λ c. search needs) (λ c. search needs) (λ c. search needs)
+    (λ c.
+    let e = c .before .before .before .before .before .before .before .before .recover-weighted-poly .ensures in
+    (c .deliver .ensures ∙ e .0, e .1)))

@@ -1,0 +1,13 @@
+use borrow.Author.Needs.{needs}
+use mathlib.Core.Path.{_∙_}
+use Rattle.cobra.proofs.systems.cobra_solve_2adic.Statement.{statement}
+use Rattle.cobra.proofs.systems.cobra_solve_2adic.Tie as tie
+
+pub cobra-solve-2adic-spec : {M : Type 1} → statement M
+cobra-solve-2adic-spec =
+    tie.close
+    (tie.spec
+    (λ c κs. search needs) (λ c κs. search needs) (λ c. search needs) (λ c. search needs) (λ c. search needs)
+    (λ c.
+    let e = c .before .before .before .before .before .before .before .solve-2adic .ensures in
+    (c .outcome-code .ensures ∙ e .0, (e .1, (e .2, e .3)))))

@@ -1,0 +1,45 @@
+// The weighted fit on tables of u64. What the call does is said in `weighted_poly_fit`.
+ghost use mathlib.Core.Path.{_≡_};
+ghost use Rattle.meaning.specs.Fit.{fitOf, fitReply, fitOut, fitMatrix, fitRight};
+ghost use Rattle.meaning.specs.Replies.{told};
+
+// Fits a polynomial to weighted targets; `value` gets degree_used.
+#[no_mangle]
+pub extern "C" fn cobra_recover_weighted_poly(
+    weights: &[u64],
+    targets: &[u64],
+    support: &[u64],
+    total: u32,
+    width: u32,
+    max_degree: u8,
+    grid_degree: u8,
+    matrix: &mut [u64],
+    right: &mut [u64],
+    out: &mut [u64],
+    value: &mut u64,
+) -> u32
+    ensures says { λ r. ⌜ told r (now (value .exit)) ≡ fitReply (fitOf total width (now (support .entry)) «max_degree» «grid_degree» (now (weights .entry))
+        (now (targets .entry)) (now (matrix .entry)) (now (right .entry)) (now (out .entry))) ⌝ }
+    ensures leaves { λ r. ⌜ (now (out .exit) ≡ fitOut (fitOf total width (now (support .entry)) «max_degree» «grid_degree» (now (weights .entry))
+        (now (targets .entry)) (now (matrix .entry)) (now (right .entry)) (now (out .entry))))
+        × (now (matrix .exit) ≡ fitMatrix (fitOf total width (now (support .entry)) «max_degree» «grid_degree» (now (weights .entry))
+        (now (targets .entry)) (now (matrix .entry)) (now (right .entry)) (now (out .entry))))
+        × (now (right .exit) ≡ fitRight (fitOf total width (now (support .entry)) «max_degree» «grid_degree» (now (weights .entry))
+        (now (targets .entry)) (now (matrix .entry)) (now (right .entry)) (now (out .entry)))) ⌝ }
+{
+    answers::deliver(
+        weighted_poly_fit::fit::recover_weighted_poly(
+            weights,
+            targets,
+            support,
+            total,
+            width,
+            max_degree,
+            grid_degree,
+            matrix,
+            right,
+            out,
+        ),
+        value,
+    )
+}

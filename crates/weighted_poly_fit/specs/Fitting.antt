@@ -1,0 +1,61 @@
+-- What the parts of the fit promise: the system is solved into a box, and the tables are left as the call leaves them.
+use mathlib.Core.Path.{_≡_}
+use mathlib.Core.Bool.{Bool, _&&_, cond}
+use mathlib.Core.List.{List, []}
+use Prim.Native.Nat.{ℕ, _*_}
+use lib.Dec.{ltb, eqb}
+use lib.ListN.{length}
+use Rattle.meaning.specs.Tables.{tabulate}
+use Rattle.meaning.specs.Boxes.{cells}
+use Rattle.meaning.specs.Replies.{Reply}
+use Rattle.meaning.specs.Settings.{first}
+use Rattle.meaning.specs.Calls.{reply, left}
+use Rattle.meaning.specs.Elimination.{eliminated, substituted, succeeds}
+use Rattle.meaning.specs.Fit.{fitBox, degreeUsed, Fit, fitRows, fitColumns, fitSucceeds, fitAnswer}
+
+-- the reply r and the box `out` of the solved system A, whose unknowns are the coefficients of the exponent lists fs, `cols` of them: with what the elimination
+-- makes of it, the substituted values and the degree used, or 10 and zeros
+pub record Answered (w rows cols : ℕ) (ds : List ℕ) (fs : List (List ℕ)) (A : ℕ → ℕ → ℕ) (out : List ℕ) (r : Reply) : Type 0 where
+  pub says : r
+      ≡ reply (cond (succeeds w rows cols (eliminated w rows cols A)) 0 10)
+      (degreeUsed ds (fitBox w ds fs (substituted w cols (eliminated w rows cols A))))
+  pub leaves : out
+      ≡ cond (succeeds w rows cols (eliminated w rows cols A)) (fitBox w ds fs (substituted w cols (eliminated w rows cols A)))
+      (tabulate (cells ds) (λ n. 0))
+
+-- a fit with a degree for each variable of the box, ds, and of the grid, gs; its settings are taken to pass, so that variables and support do not matter
+abbrev pub fitWith : ℕ → List ℕ → List ℕ → ℕ → List ℕ → List ℕ → List ℕ → List ℕ → List ℕ → Fit
+fitWith w ds gs most weights targets matrix right out =
+    record {
+      variables = 0;
+      width = w;
+      support = [];
+      most = most;
+      degrees = ds;
+      grid = gs;
+      weights = weights;
+      targets = targets;
+      matrix = matrix;
+      right = right;
+      out = out;
+    }
+
+-- every lent table has its exact length
+abbrev pub fitLengths : Fit → Bool
+fitLengths f =
+    eqb (length (f .weights)) (fitRows f)
+    && eqb (length (f .targets)) (fitRows f)
+    && eqb (length (f .matrix)) (fitRows f * length (fitColumns f))
+    && eqb (length (f .right)) (fitRows f)
+    && eqb (length (f .out)) (cells (f .degrees))
+
+-- the causes after the settings: 8 for the matrix, then 9, or 0
+abbrev pub tableCause : Fit → ℕ
+tableCause f = first (cond (ltb 65536 (fitRows f * length (fitColumns f))) 8 0) (cond (fitLengths f) 0 9)
+
+-- the reply r and the tables at the end, where `cause` is the number of the first cause before anything is eliminated, or 0
+pub record Fitted (f : Fit) (cause : ℕ) (matrix right out : List ℕ) (r : Reply) : Type 0 where
+  pub says : r ≡ reply (first cause (cond (fitSucceeds f) 0 10)) (degreeUsed (f .degrees) (fitAnswer f))
+  pub leaves-out : out ≡ left cause (cond (fitSucceeds f) (fitAnswer f) (tabulate (cells (f .degrees)) (λ n. 0))) (f .out)
+  pub leaves-matrix : matrix ≡ left cause (tabulate (length (f .matrix)) (λ n. 0)) (f .matrix)
+  pub leaves-right : right ≡ left cause (tabulate (length (f .right)) (λ n. 0)) (f .right)

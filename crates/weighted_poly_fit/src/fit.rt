@@ -1,0 +1,316 @@
+// The weighted fit: coefficients of falling factorials whose value at each grid point, times the weight there, is the target there, modulo 2^w.
+ghost use mathlib.Core.Path.{_≡_};
+ghost use mathlib.Core.Bool.{_&&_};
+ghost use Prim.Native.Nat.{ℕ, _*_, _≤_, _<_, min};
+ghost use lib.Dec.{eqb};
+ghost use lib.ListN.{length};
+ghost use Rattle.meaning.specs.Tables.{at};
+ghost use Rattle.meaning.specs.Boxes.{cells};
+ghost use Rattle.meaning.specs.Elimination.{joined, system};
+ghost use Rattle.meaning.specs.Fit.{columns, fitSystem, fitOf, fitReply, fitOut, fitMatrix, fitRight};
+ghost use Rattle.weighted_poly_fit.specs.Fitting.{Answered, Fitted, fitWith, tableCause};
+ghost use Rattle.answers.specs.Said.{said};
+use crate::answer;
+use crate::columns;
+use crate::matrix;
+use answers::Number;
+use answers::Outcome;
+use answers::Refusal;
+
+// The smaller of two degrees.
+fn lesser_degree(a: u8, b: u8) -> u8
+    ensures { λ r. ⌜ r ≡ min a b ⌝ }
+{
+    if a < b { a } else { b }
+}
+
+// Lists the columns and fills the matrix and the right side of the system. `degrees` has the highest exponents, all below `size`, and `grid` the degrees of
+// the grid; there are `cols` columns.
+fn fill_system(
+    exponents: &mut [u8],
+    matrix: &mut [u64],
+    right: &mut [u64],
+    weights: &[u64],
+    targets: &[u64],
+    degrees: &[u8],
+    grid: &[u8],
+    most: u8,
+    cols: usize,
+    size: usize,
+    bitwidth: u32,
+)
+    requires { ⌜ (length (now matrix) ≡ length (now weights) * cols) × (length (now targets) ≡ length (now right)) × (bitwidth ≤ 64) ⌝ }
+    requires { ⌜ (cols ≡ length (columns (now degrees) most)) × (length (now exponents) ≡ cols * length (now degrees)) × (length (now grid) ≡ length (now degrees)) ⌝ }
+    requires { ⌜ (length (now degrees) ≤ 20) × (size ≤ 256) × ((j : ℕ) → j < length (now degrees) → at (now degrees) j < size) ⌝ }
+    ensures lists { λ r. ⌜ now (exponents .exit) ≡ joined (columns (now (degrees .entry)) most) ⌝ }
+    ensures fills { λ r. ⌜ system bitwidth cols (now (matrix .exit)) (now (right .exit))
+        ≡ fitSystem bitwidth (now (grid .entry)) (columns (now (degrees .entry)) most) (now (weights .entry)) (now (targets .entry)) ⌝ }
+{
+    let variables = degrees.len();
+    let room = variables * size;
+    let mut current = [0u8; 20];
+    let mut powers = [0u64; 5120];
+    let mut point = [0u64; 20];
+    columns::enumerate_basis(exponents, &mut current[..variables], degrees, most);
+    matrix::fill_matrix(
+        matrix,
+        weights,
+        grid,
+        exponents,
+        cols,
+        size,
+        &mut powers[..room],
+        &mut point[..variables],
+        bitwidth,
+    );
+    matrix::fill_right(right, targets, bitwidth);
+}
+
+// Solves the system of the matrix and the right side, which are used up, into `values`. `out` gets the box of the answer, and the result is the degree used;
+// where the elimination finds no answer `out` gets zeros.
+fn answer_system(
+    matrix: &mut [u64],
+    right: &mut [u64],
+    values: &mut [u64],
+    out: &mut [u64],
+    exponents: &[u8],
+    degrees: &[u8],
+    most: u8,
+    bitwidth: u32,
+) -> Number
+    requires { ⌜ (length (now matrix) ≡ length (now right) * length (now values)) × (length (now matrix) ≤ 65536) × (length (now values) ≤ 256) × (2 ≤ bitwidth) × (bitwidth ≤ 64) ⌝ }
+    requires { ⌜ (length (now out) ≡ cells (now degrees)) × (cells (now degrees) ≤ 65536) × (length (now degrees) ≤ 20) ⌝ }
+    requires { ⌜ (length (now values) ≡ length (columns (now degrees) most)) × (now exponents ≡ joined (columns (now degrees) most)) ⌝ }
+    ensures { λ r. ⌜ Answered bitwidth (length (now (right .entry))) (length (now (values .entry))) (now (degrees .entry)) (columns (now (degrees .entry)) most)
+        (system bitwidth (length (now (values .entry))) (now (matrix .entry)) (now (right .entry))) (now (out .exit)) (said r) ⌝ }
+{
+    match two_adic_solver::solver::solve_2adic(matrix, right, values.len(), bitwidth, values) {
+        Outcome::Refused(refusal) => {
+            tables::clear(out);
+            Number::Refused(refusal)
+        }
+        Outcome::Accepted => Number::Value(answer::fill_answer(
+            out,
+            values,
+            exponents,
+            degrees,
+            most,
+            bitwidth,
+        )),
+    }
+}
+
+// A fit whose tables have their exact lengths, with room for the exponents and for the values of the columns. Matrix and right side end as zeros.
+fn fit_with(
+    weights: &[u64],
+    targets: &[u64],
+    degrees: &[u8],
+    grid: &[u8],
+    most: u8,
+    size: usize,
+    bitwidth: u32,
+    exponents: &mut [u8],
+    values: &mut [u64],
+    matrix: &mut [u64],
+    right: &mut [u64],
+    out: &mut [u64],
+) -> Number
+    requires { ⌜ (length (now weights) ≡ cells (now grid)) × (length (now targets) ≡ cells (now grid)) × (length (now right) ≡ cells (now grid)) × (length (now matrix) ≡ cells (now grid) * length (now values)) × (length (now matrix) ≤ 65536) ⌝ }
+    requires { ⌜ (length (now out) ≡ cells (now degrees)) × (cells (now degrees) ≤ 65536) × (length (now exponents) ≡ length (now values) * length (now degrees)) × (length (now values) ≡ length (columns (now degrees) most)) × (length (now values) ≤ 256) ⌝ }
+    requires { ⌜ (2 ≤ bitwidth) × (bitwidth ≤ 64) × (length (now grid) ≡ length (now degrees)) × (length (now degrees) ≤ 20) × (size ≤ 256) × ((j : ℕ) → j < length (now degrees) → at (now degrees) j < size) ⌝ }
+    ensures { λ r. ⌜ Fitted (fitWith bitwidth (now (degrees .entry)) (now (grid .entry)) most (now (weights .entry)) (now (targets .entry))
+        (now (matrix .entry)) (now (right .entry)) (now (out .entry))) 0 (now (matrix .exit)) (now (right .exit)) (now (out .exit)) (said r) ⌝ }
+{
+    fill_system(
+        exponents,
+        matrix,
+        right,
+        weights,
+        targets,
+        degrees,
+        grid,
+        most,
+        values.len(),
+        size,
+        bitwidth,
+    );
+    let found = answer_system(
+        matrix,
+        right,
+        values,
+        out,
+        exponents,
+        degrees,
+        most,
+        bitwidth,
+    );
+    tables::clear(matrix);
+    tables::clear(right);
+    found
+}
+
+// A fit whose tables have their exact lengths.
+fn fit_tables(
+    weights: &[u64],
+    targets: &[u64],
+    degrees: &[u8],
+    grid: &[u8],
+    most: u8,
+    cols: usize,
+    size: usize,
+    bitwidth: u32,
+    matrix: &mut [u64],
+    right: &mut [u64],
+    out: &mut [u64],
+) -> Number
+    requires { ⌜ (length (now weights) ≡ cells (now grid)) × (length (now targets) ≡ cells (now grid)) × (length (now right) ≡ cells (now grid)) × (length (now matrix) ≡ cells (now grid) * cols) × (length (now matrix) ≤ 65536) ⌝ }
+    requires { ⌜ (length (now out) ≡ cells (now degrees)) × (cells (now degrees) ≤ 65536) × (cols ≡ length (columns (now degrees) most)) × (cols ≤ 256) ⌝ }
+    requires { ⌜ (2 ≤ bitwidth) × (bitwidth ≤ 64) × (length (now grid) ≡ length (now degrees)) × (length (now degrees) ≤ 20) × (size ≤ 256) × ((j : ℕ) → j < length (now degrees) → at (now degrees) j < size) ⌝ }
+    ensures { λ r. ⌜ Fitted (fitWith bitwidth (now (degrees .entry)) (now (grid .entry)) most (now (weights .entry)) (now (targets .entry))
+        (now (matrix .entry)) (now (right .entry)) (now (out .entry))) 0 (now (matrix .exit)) (now (right .exit)) (now (out .exit)) (said r) ⌝ }
+{
+    let mut exponents = [0u8; 5120];
+    let mut values = [0u64; 256];
+    let room = cols * degrees.len();
+    fit_with(
+        weights,
+        targets,
+        degrees,
+        grid,
+        most,
+        size,
+        bitwidth,
+        &mut exponents[..room],
+        &mut values[..cols],
+        matrix,
+        right,
+        out,
+    )
+}
+
+// Whether every table has its exact length.
+fn lengths_fit(
+    weights: &[u64],
+    targets: &[u64],
+    matrix: &[u64],
+    right: &[u64],
+    out: &[u64],
+    rows: usize,
+    entries: usize,
+    count: usize,
+) -> bool
+    ensures { λ r. ⌜ r ≡ (eqb (length (now (weights .entry))) rows && eqb (length (now (targets .entry))) rows
+        && eqb (length (now (matrix .entry))) entries && eqb (length (now (right .entry))) rows && eqb (length (now (out .entry))) count) ⌝ }
+{
+    if weights.len() != rows {
+        return false;
+    }
+    if targets.len() != rows {
+        return false;
+    }
+    if matrix.len() != entries {
+        return false;
+    }
+    if right.len() != rows {
+        return false;
+    }
+    out.len() == count
+}
+
+// A fit whose settings pass: `grid` has as many cells as `rows` says. Turned down for 8 where the matrix is too large, then for 9, with the tables left as
+// they were.
+fn fit_box(
+    weights: &[u64],
+    targets: &[u64],
+    degrees: &[u8],
+    grid: &[u8],
+    most: u8,
+    rows: usize,
+    size: usize,
+    bitwidth: u32,
+    matrix: &mut [u64],
+    right: &mut [u64],
+    out: &mut [u64],
+) -> Number
+    requires { ⌜ (rows ≡ cells (now grid)) × (rows ≤ 65536) × (cells (now degrees) ≤ rows) × (length (now grid) ≡ length (now degrees)) × (2 ≤ bitwidth) × (bitwidth ≤ 64) ⌝ }
+    requires { ⌜ (length (now degrees) ≤ 20) × (size ≤ 256) × ((j : ℕ) → j < length (now degrees) → at (now degrees) j < size) ⌝ }
+    ensures { λ r. ⌜ Fitted (fitWith bitwidth (now (degrees .entry)) (now (grid .entry)) most (now (weights .entry)) (now (targets .entry))
+        (now (matrix .entry)) (now (right .entry)) (now (out .entry)))
+        (tableCause (fitWith bitwidth (now (degrees .entry)) (now (grid .entry)) most (now (weights .entry)) (now (targets .entry))
+        (now (matrix .entry)) (now (right .entry)) (now (out .entry))))
+        (now (matrix .exit)) (now (right .exit)) (now (out .exit)) (said r) ⌝ }
+{
+    let cols = columns::count_columns(degrees, most as usize);
+    let entries = rows * cols;
+    if 65536 < entries {
+        return Number::Refused(Refusal::TooLarge);
+    }
+    let count = poly::checks::count_cells(degrees) as usize;
+    if !lengths_fit(weights, targets, matrix, right, out, rows, entries, count) {
+        return Number::Refused(Refusal::WrongLength);
+    }
+    fit_tables(
+        weights,
+        targets,
+        degrees,
+        grid,
+        most,
+        cols,
+        size,
+        bitwidth,
+        matrix,
+        right,
+        out,
+    )
+}
+
+// Fits a polynomial in falling factorials to weighted targets on the grid {0, .., grid_degree} over the support variables, modulo 2^bitwidth: exponents
+// reach at most the smaller of max_degree and grid_degree, their sum at most max_degree. `weights` and `targets` have an entry for each grid point. On
+// success `out`, a box of that smaller degree, has the coefficients, each below 2^(bitwidth - q), q being the twos in the factorials of its exponents, and
+// the result is the largest total degree among those that are not 0. Its value times the weight is the target at every grid point. Refused for 10 where the
+// elimination finds no answer, which does not say that there is none: `out` is then all zero. The scratch tables `matrix`, rows times columns, and `right`,
+// rows, are zero after success and after 10. Other refusals, in the order 1, 2, 3, 5, 7, 8, 9, leave all tables as they were. `weights`, `targets` and
+// `support` are not altered.
+pub fn recover_weighted_poly(
+    weights: &[u64],
+    targets: &[u64],
+    support: &[u64],
+    total: u32,
+    bitwidth: u32,
+    max_degree: u8,
+    grid_degree: u8,
+    matrix: &mut [u64],
+    right: &mut [u64],
+    out: &mut [u64],
+) -> Number
+    ensures says { λ r. ⌜ said r ≡ fitReply (fitOf total bitwidth (now (support .entry)) «max_degree» «grid_degree» (now (weights .entry)) (now (targets .entry))
+        (now (matrix .entry)) (now (right .entry)) (now (out .entry))) ⌝ }
+    ensures leaves { λ r. ⌜ (now (out .exit) ≡ fitOut (fitOf total bitwidth (now (support .entry)) «max_degree» «grid_degree» (now (weights .entry))
+        (now (targets .entry)) (now (matrix .entry)) (now (right .entry)) (now (out .entry))))
+        × (now (matrix .exit) ≡ fitMatrix (fitOf total bitwidth (now (support .entry)) «max_degree» «grid_degree» (now (weights .entry))
+        (now (targets .entry)) (now (matrix .entry)) (now (right .entry)) (now (out .entry))))
+        × (now (right .exit) ≡ fitRight (fitOf total bitwidth (now (support .entry)) «max_degree» «grid_degree» (now (weights .entry))
+        (now (targets .entry)) (now (matrix .entry)) (now (right .entry)) (now (out .entry)))) ⌝ }
+{
+    match poly::settings(false, support, total, bitwidth, grid_degree) {
+        Number::Refused(refusal) => Number::Refused(refusal),
+        Number::Value(rows) => {
+            let degree = lesser_degree(max_degree, grid_degree);
+            let degrees = [degree; 20];
+            let grid = [grid_degree; 20];
+            fit_box(
+                weights,
+                targets,
+                &degrees[..support.len()],
+                &grid[..support.len()],
+                max_degree,
+                rows as usize,
+                degree as usize + 1,
+                bitwidth,
+                matrix,
+                right,
+                out,
+            )
+        }
+    }
+}
