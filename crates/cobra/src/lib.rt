@@ -2,6 +2,7 @@
 // refusal. A slice crosses as a pointer and then a length.
 pub mod arithmetic;
 pub mod boxes;
+pub mod bytes;
 pub mod fit;
 pub mod keys;
 pub mod leaves;

@@ -1,0 +1,28 @@
+-- Support and values are decoded, recovery answers on them, and what it leaves is encoded.
+use Rattle.byte_calls.proofs.recover_in.Statement.{statement}
+use borrow.Author.Needs.{needs}
+use mathlib.Core.Path.{_≡_, _∙_, ap, ap₂}
+use mathlib.Core.List.{List}
+use Prim.Native.Nat.{ℕ}
+use denote.Ref.{now}
+use Rattle.meaning.specs.Settings.{cube}
+use Rattle.meaning.specs.Calls.{recoveryNumber, recoveryLeft}
+use Rattle.byte_calls.specs.Bytes.{encoded}
+use Rattle.byte_calls.proofs.recover_in.Tie as tie
+
+pub recover-in-spec : {M : Type 1} → statement M
+recover-in-spec =
+    tie.close
+    (tie.spec
+    (λ c κs. search needs) (λ c κs. search needs) (λ c κs. search needs) (λ c κs. search needs)
+    (λ c. search needs) (λ c. search needs) (λ c. search needs) (λ c. search needs)
+    (λ c.
+    let r = c .before .before .before .before .before .before .before in
+    let v = r .before .before .before .before .before .before in
+    let s = v .before .before .before .before in
+    let k = s .before .before .before .before .before .before .before .before .args in
+    let number : List ℕ → List ℕ → ℕ = λ s v. recoveryNumber (k .total) (k .width) s (cube s (k .degree)) v (now (k .found)) in
+    let box : List ℕ → List ℕ → List ℕ = λ s v. recoveryLeft (k .total) (k .width) s (cube s (k .degree)) v (now (k .found)) in (
+      r .recover-multivar-poly .ensures .0 ∙ ap₂ number (s .decode .ensures) (v .decode2 .ensures),
+      c .before .before .encode .ensures ∙ ap encoded (r .recover-multivar-poly .ensures .1 ∙ ap₂ box (s .decode .ensures) (v .decode2 .ensures)),
+    )))

@@ -1,0 +1,55 @@
+-- What the calls on tables of bytes answer and leave: the calls' own definitions on the tables that the bytes hold. Count, total variables, width w,
+-- support, degree list ds, then the tables. A table may have 4,096 entries, and no more.
+use Prim.Native.Nat.{ℕ, _*_, _^_}
+use mathlib.Core.Bool.{Bool, true, false, _&&_, cond}
+use mathlib.Core.List.{List}
+use lib.Dec.{ltb, eqb}
+use lib.ListN.{length}
+use Rattle.meaning.specs.Tables.{tabulate}
+use Rattle.meaning.specs.Boxes.{cells}
+use Rattle.meaning.specs.Values.{value}
+use Rattle.meaning.specs.Recovery.{accepts, answer}
+use Rattle.meaning.specs.Replies.{Reply, between}
+use Rattle.meaning.specs.Settings.{settingsNumber, first}
+use Rattle.meaning.specs.Calls.{reply, left}
+use Rattle.byte_calls.specs.Bytes.{decoded, encoded}
+
+-- the bytes are those of n entries
+abbrev pub holds : List ℕ → ℕ → Bool
+holds bytes n = eqb (length bytes) (n * 8)
+
+-- the settings where a box above 4,096 cells is 8
+abbrev pub smallNumber : Bool → ℕ → Bool → List ℕ → List ℕ → ℕ
+smallNumber strict total fits support ds = first (settingsNumber strict total fits support ds) (cond (ltb 4096 (cells ds)) 8 0)
+
+-- the number before a table is looked at: 9 where the support does not have its count of entries, then the settings
+unfoldable pub boxNumber : Bool → ℕ → ℕ → ℕ → List ℕ → List ℕ → ℕ
+unfolding settingsNumber cells decoded
+boxNumber strict count total w support ds =
+    first (cond (holds support count) 0 9) (smallNumber strict total (between 2 64 w) (decoded support) ds)
+
+-- recovery: then 9 where a table does not have an entry for each cell
+unfoldable pub recoverCause : ℕ → ℕ → ℕ → List ℕ → List ℕ → List ℕ → List ℕ → ℕ
+unfolding boxNumber cells
+recoverCause count total w support ds values out =
+    first (boxNumber true count total w support ds) (cond (holds values (cells ds) && holds out (cells ds)) 0 9)
+
+-- then 6 where a difference does not pass
+unfoldable pub recoverNumber : ℕ → ℕ → ℕ → List ℕ → List ℕ → List ℕ → List ℕ → ℕ
+unfolding recoverCause accepts decoded
+recoverNumber count total w support ds values out =
+    first (recoverCause count total w support ds values out) (cond (accepts w ds (decoded values)) 0 6)
+
+-- the coefficients where it is accepted, zeros after 6, else what was there
+unfoldable pub recoverLeft : ℕ → ℕ → ℕ → List ℕ → List ℕ → List ℕ → List ℕ → List ℕ
+unfolding recoverCause accepts answer decoded encoded
+recoverLeft count total w support ds values out =
+    left (recoverCause count total w support ds values out)
+    (encoded (cond (accepts w ds (decoded values)) (answer w ds (decoded values)) (tabulate (cells ds) (λ n. 0)))) out
+
+-- the value at a point: 9 where there is not a coefficient for each cell and a coordinate for each variable
+unfoldable pub bytesValueReply : ℕ → ℕ → ℕ → List ℕ → List ℕ → List ℕ → List ℕ → Reply
+unfolding boxNumber value decoded
+bytesValueReply count total w support ds coeffs point =
+    reply (first (boxNumber false count total w support ds) (cond (holds coeffs (cells ds) && holds point count) 0 9))
+    (value (2 ^ w) ds (decoded coeffs) (decoded point))

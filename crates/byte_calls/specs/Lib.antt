@@ -1,0 +1,5 @@
+pub mod Bytes
+pub mod ByteLaws
+pub mod Calls
+pub mod CallLaws
+pub mod TableLaws

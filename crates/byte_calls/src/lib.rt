@@ -1,0 +1,161 @@
+// The database's calls: recovery and value on tables of bytes, eight to an entry, least first, at most 4,096 entries each.
+ghost use mathlib.Core.Path.{_≡_};
+ghost use Prim.Native.Nat.{_*_};
+ghost use lib.ListN.{length};
+ghost use Rattle.meaning.specs.Settings.{cube};
+ghost use Rattle.meaning.specs.Calls.{recoveryNumber, recoveryLeft, valueReply};
+ghost use Rattle.answers.specs.Said.{said, saidNumber};
+ghost use Rattle.byte_calls.specs.Bytes.{decoded, encoded};
+ghost use Rattle.byte_calls.specs.Calls.{recoverNumber, recoverLeft, bytesValueReply};
+
+mod checks;
+mod codec;
+
+use answers::Number;
+use answers::Outcome;
+use answers::Refusal;
+
+// Recovery with room lent for the indices, the values and the coefficients.
+fn recover_in(
+    values: &[u8],
+    support: &[u8],
+    total: u32,
+    width: u32,
+    degree: u8,
+    indices: &mut [u64],
+    given: &mut [u64],
+    found: &mut [u64],
+    out: &mut [u8],
+) -> Outcome
+    requires { ⌜ (length (now support) ≡ length (now indices) * 8) × (length (now values) ≡ length (now given) * 8) × (length (now out) ≡ length (now found) * 8) ⌝ }
+    ensures says { λ r. ⌜ saidNumber r ≡ recoveryNumber total width (decoded (now (support .entry))) (cube (decoded (now (support .entry))) degree)
+        (decoded (now (values .entry))) (now (found .entry)) ⌝ }
+    ensures leaves { λ r. ⌜ now (out .exit) ≡ encoded (recoveryLeft total width (decoded (now (support .entry))) (cube (decoded (now (support .entry))) degree)
+        (decoded (now (values .entry))) (now (found .entry))) ⌝ }
+{
+    codec::decode(support, indices);
+    codec::decode(values, given);
+    let outcome = multivar_poly_recovery::recover_multivar_poly(
+        given,
+        indices,
+        total,
+        width,
+        degree,
+        found,
+    );
+    codec::encode(found, out);
+    outcome
+}
+
+// Recovers the coefficients of the falling factorials from the values on the grid {0, .., degree} over the support variables, modulo 2^width. `support` has
+// `count` indices, `values` a value for each grid point and `out` gets a coefficient for each exponent list, first support variable fastest. Refused in the
+// order 9 (the support's bytes), 1, 2, 3, 4, 5, 7, 8 (more than 4,096 cells), 9 (the other tables' bytes), when `out` is as it was, and then for 6, when all
+// bytes of `out` are 0. `values` and `support` are not altered.
+pub fn recover(
+    values: &[u8],
+    support: &[u8],
+    count: u64,
+    total: u32,
+    width: u32,
+    degree: u8,
+    out: &mut [u8],
+) -> Outcome
+    ensures says { λ r. ⌜ saidNumber r ≡ recoverNumber count total width (now (support .entry)) (cube (decoded (now (support .entry))) degree)
+        (now (values .entry)) (now (out .entry)) ⌝ }
+    ensures leaves { λ r. ⌜ now (out .exit) ≡ recoverLeft count total width (now (support .entry)) (cube (decoded (now (support .entry))) degree)
+        (now (values .entry)) (now (out .entry)) ⌝ }
+{
+    match checks::check(true, support, count, total, width, degree) {
+        Number::Refused(refusal) => Outcome::Refused(refusal),
+        Number::Value(cells) => {
+            if !checks::holds(values, cells) {
+                return Outcome::Refused(Refusal::WrongLength);
+            }
+            if !checks::holds(out, cells) {
+                return Outcome::Refused(Refusal::WrongLength);
+            }
+            let known = count as usize;
+            let size = cells as usize;
+            let mut indices = [0u64; 20];
+            let mut given = [0u64; 4096];
+            let mut found = [0u64; 4096];
+            recover_in(
+                values,
+                support,
+                total,
+                width,
+                degree,
+                &mut indices[..known],
+                &mut given[..size],
+                &mut found[..size],
+                out,
+            )
+        }
+    }
+}
+
+// The value with room lent for the indices, the coefficients and the coordinates.
+fn value_in(
+    coeffs: &[u8],
+    support: &[u8],
+    total: u32,
+    width: u32,
+    degree: u8,
+    point: &[u8],
+    indices: &mut [u64],
+    given: &mut [u64],
+    coordinates: &mut [u64],
+) -> Number
+    requires { ⌜ (length (now support) ≡ length (now indices) * 8) × (length (now coeffs) ≡ length (now given) * 8) × (length (now point) ≡ length (now coordinates) * 8) ⌝ }
+    ensures { λ r. ⌜ said r ≡ valueReply total width (decoded (now (support .entry))) (cube (decoded (now (support .entry))) degree)
+        (decoded (now (coeffs .entry))) (decoded (now (point .entry))) ⌝ }
+{
+    codec::decode(support, indices);
+    codec::decode(coeffs, given);
+    codec::decode(point, coordinates);
+    poly::value(given, indices, total, width, degree, coordinates)
+}
+
+// The value of a box of coefficients at a point, modulo 2^width: the sum over the cells of the coefficient times the falling factorials of the coordinates to
+// the cell's exponents. `support` has `count` indices, `coeffs` a coefficient for each cell, `point` a coordinate for each support variable. Refused in the
+// order 9 (the support's bytes), 1, 2, 3, 5, 7, 8 (more than 4,096 cells), 9 (the other tables' bytes). Nothing is altered.
+pub fn value(
+    coeffs: &[u8],
+    support: &[u8],
+    count: u64,
+    total: u32,
+    width: u32,
+    degree: u8,
+    point: &[u8],
+) -> Number
+    ensures { λ r. ⌜ said r ≡ bytesValueReply count total width (now (support .entry)) (cube (decoded (now (support .entry))) degree)
+        (now (coeffs .entry)) (now (point .entry)) ⌝ }
+{
+    match checks::check(false, support, count, total, width, degree) {
+        Number::Refused(refusal) => Number::Refused(refusal),
+        Number::Value(cells) => {
+            if !checks::holds(coeffs, cells) {
+                return Number::Refused(Refusal::WrongLength);
+            }
+            if !checks::holds(point, count) {
+                return Number::Refused(Refusal::WrongLength);
+            }
+            let known = count as usize;
+            let size = cells as usize;
+            let mut indices = [0u64; 20];
+            let mut given = [0u64; 4096];
+            let mut coordinates = [0u64; 20];
+            value_in(
+                coeffs,
+                support,
+                total,
+                width,
+                degree,
+                point,
+                &mut indices[..known],
+                &mut given[..size],
+                &mut coordinates[..known],
+            )
+        }
+    }
+}

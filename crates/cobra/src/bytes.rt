@@ -1,0 +1,44 @@
+// The database's calls: tables and support cross as bytes, eight to an entry, least first, at most 4,096 entries each. The support's count crosses as a
+// number. What a call does is said in `byte_calls`.
+ghost use mathlib.Core.Path.{_≡_};
+ghost use Rattle.meaning.specs.Settings.{cube};
+ghost use Rattle.meaning.specs.Replies.{told};
+ghost use Rattle.byte_calls.specs.Bytes.{decoded};
+ghost use Rattle.byte_calls.specs.Calls.{recoverNumber, recoverLeft, bytesValueReply};
+
+// Recovery from the values on a grid.
+#[no_mangle]
+pub extern "C" fn cobra_recover(
+    values: &[u8],
+    support: &[u8],
+    count: u64,
+    total: u32,
+    width: u32,
+    degree: u8,
+    out: &mut [u8],
+) -> u32
+    ensures says { λ r. ⌜ r ≡ recoverNumber count total width (now (support .entry)) (cube (decoded (now (support .entry))) degree) (now (values .entry)) (now (out .entry)) ⌝ }
+    ensures leaves { λ r. ⌜ now (out .exit) ≡ recoverLeft count total width (now (support .entry)) (cube (decoded (now (support .entry))) degree) (now (values .entry)) (now (out .entry)) ⌝ }
+{
+    answers::outcome_code(byte_calls::recover(values, support, count, total, width, degree, out))
+}
+
+// The value of a box at a point.
+#[no_mangle]
+pub extern "C" fn cobra_value(
+    coeffs: &[u8],
+    support: &[u8],
+    count: u64,
+    total: u32,
+    width: u32,
+    degree: u8,
+    point: &[u8],
+    value: &mut u64,
+) -> u32
+    ensures { λ r. ⌜ told r (now (value .exit)) ≡ bytesValueReply count total width (now (support .entry)) (cube (decoded (now (support .entry))) degree) (now (coeffs .entry)) (now (point .entry)) ⌝ }
+{
+    answers::deliver(
+        byte_calls::value(coeffs, support, count, total, width, degree, point),
+        value,
+    )
+}
