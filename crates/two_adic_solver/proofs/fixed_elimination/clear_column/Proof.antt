@@ -1,6 +1,7 @@
 use Rattle.two_adic_solver.proofs.fixed_elimination.clear_column.Statement.{statement}
 use mathlib.Core.Path.{sym, _∙_}
 use Prim.Native.Nat.{_-_, _<_, _≤_}
+use native.Mathlib.Nat.{lt-irrefl}
 use native.Mathlib.Omega.{arith}
 use lib.ListN.{length}
 use Rattle.meaning.specs.Elimination.{joined}
@@ -57,12 +58,14 @@ clear-column-spec =
     (arith, i .1 .same-right, p .0 .1, c .before .before .before .before .before .before .loop-test .taken) in (
       k .ensures .0,
       cleared-step _ _ _ _ _ _ _ lp (p .0 .3) _ (c .before .before .before .before .before .before .before .before .before .height .result)
-          (c .before .before .before .before .before .before .before .before .pivot-inverse .result)
+          (c .before .before .before .before .before .before .before .before .pivot-inverse .result) (4 - s .args .column)
           (sym (joined-entry (p .0 .0) (s .args .pivot) (s .args .column) (p .0 .4) (p .0 .3)))
           (c .before .before .before .before .before .before .before .before .before .height .ensures)
-          (c .before .before .before .before .before .before .before .before .pivot-inverse .ensures) (joined (b .loop .matrix)) (b .loop .right)
+          (c .before .before .before .before .before .before .before .before .pivot-inverse .ensures)
+          (λ j l m. absurd (lt-irrefl j (omega (arith, l, m)))) (joined (b .loop .matrix)) (b .loop .right)
           (joined (k .last .0)) (k .last .1 .0)
-          (b .loop .row) (i .1) lr (joined-length (k .ensures .0) ∙ sym (joined-length (i .0))) (omega arith) (k .ensures .1),
+          (b .loop .row) (i .1) lr (joined-length (k .ensures .0) ∙ sym (joined-length (i .0))) (omega arith)
+          (λ u h e small zeros far. k .ensures .1 u h e small zeros),
     ))
     (λ c. c .before .loop .inv .1 .same-right)
     (λ c.

@@ -1,6 +1,7 @@
 use Rattle.two_adic_solver.proofs.fixed_elimination.clear_row.Statement.{statement}
 use mathlib.Core.Path.{sym, _∙_}
-use Prim.Native.Nat.{_<_}
+use Prim.Native.Nat.{_-_, _<_}
+use native.Mathlib.Nat.{lt-irrefl}
 use native.Mathlib.Omega.{arith}
 use lib.ListN.{length}
 use Rattle.two_adic_solver.proofs.ClearLaws.{row-used, row-zero, row-subtracted, quotient-told}
@@ -41,7 +42,8 @@ clear-row-spec =
       k .ensures .0,
       λ st h ev small zeros.
           row-subtracted _ _ _ _ _ st _ _ _ _ h (a .used)
-          (c .before .before .before .before .before .before .before .before .if1 .left) small zeros lp li (p .0 .2) (q .result)
+          (c .before .before .before .before .before .before .before .before .if1 .left) small (4 - a .column) zeros
+          (λ j l m. absurd (lt-irrefl j (omega (arith, l, m)))) lp li (omega (arith, p .0 .2)) (q .result)
           (quotient-told _ _ (st .entry (a .pivot) (a .column)) _ _ (a .v) _ (q .ensures)
           (sym (joined-entry (p .0 .0) (a .row) (a .column) (p .0 .4) (p .0 .2)) ∙ h .entries (a .row) (a .column) li (p .0 .2)) ev)
           _ (k .ensures .1) _ (c .less .ensures),
