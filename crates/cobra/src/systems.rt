@@ -62,6 +62,7 @@ pub extern "C" fn cobra_solve_2adic_fixed(
     let sides = [right[0], right[1], right[2], right[3]];
     let found = two_adic_solver::fixed::solve_2adic_fixed(rows, sides, width);
     let values = found.answer;
+    let outcome = found.outcome;
     tables::copy(&values, answer);
-    answers::outcome_code(found.outcome)
+    answers::outcome_code(outcome)
 }
