@@ -1,6 +1,6 @@
 -- The solved system as the answer of the fit: number, box and degree used.
 use mathlib.Core.Path.{_≡_, refl, sym, ap, ap₂, _∙_}
-use mathlib.Core.Bool.{Bool, true, false, _&&_, _||_, cond}
+use mathlib.Core.Bool.{Bool, true, false, _&&_, _||_, cond, false≢true}
 use mathlib.Core.List.{List, [], _∷_}
 use Prim.Native.Nat.{ℕ, zero, suc, pred, _*_, _%_, _/_, _≤_, _<_, suc-le-suc}
 use native.Mathlib.Nat.{zero-lt-suc, suc-ne-zero, mul-div-cancel}
@@ -11,16 +11,18 @@ use lib.ListN.{length}
 use Rattle.meaning.specs.Tables.{at, tabulate}
 use Rattle.meaning.specs.Boxes.{cells, digits}
 use Rattle.meaning.specs.Values.{bound}
-use Rattle.meaning.specs.Replies.{accepted, refused}
+use Rattle.meaning.specs.Replies.{Reply, accepted, refused}
 use Rattle.meaning.specs.Settings.{first}
 use Rattle.meaning.specs.Calls.{sameList, reply, left}
-use Rattle.meaning.specs.Elimination.{State, system, eliminated, substituted, succeeds, solverRows, solverCause, solverState, solverSucceeds, solverNumber, solverAnswer}
+use Rattle.meaning.specs.Elimination.{State, system, eliminated, substituted, succeeds}
+use Rattle.meaning.specs.Elimination.{solverRows, solverCause, solverState, solverSucceeds, solverNumber, solverAnswer}
 use Rattle.meaning.specs.Fit.{valueOf, fitBox, degreeUsed}
 use Rattle.theory.specs.Tables.{at-tabulate, tabulate-cong}
 use Rattle.theory.specs.Ranges.{between-true}
 use Rattle.answers.specs.declared.Refusal.{Refusal}
 use Rattle.answers.specs.Said.{code}
 use Rattle.answers.specs.Laws.{code-suc}
+use Rattle.two_adic_solver.specs.Solved.{Concluded}
 use Rattle.weighted_poly_fit.specs.Fitting.{Solvable, Answered}
 
 -- ---- only the values of the columns count
@@ -81,47 +83,58 @@ module _ (w : ℕ) (mat rhs x : List ℕ) (f : Solvable w mat rhs x) where
       ∙ ap
       (λ (r : ℕ). let s = eliminated w r cols (system w cols mat rhs) in tabulate cols (λ c. cond (succeeds w r cols s) (substituted w cols s c) 0)) rows-eq
 
-  module _ (ds : List ℕ) (fs : List (List ℕ)) (count : length x ≡ length fs) where
-    -- the elimination finds an answer
-    success : 0 ≡ solverNumber w cols mat rhs x → succeeds w (length rhs) cols state ≡ true
-    success e = go (succeeds w (length rhs) cols state) (e ∙ number-eq)
-      where
-        go : (b : Bool) → _≡_ {A = ℕ} 0 (cond b 0 10) → b ≡ true
-        go true p = refl
-        go false p = absurd (suc-ne-zero 9 (sym p))
-
-    pub answered-accepted : 0 ≡ solverNumber w (length x) mat rhs x → (values out : List ℕ) (r : ℕ) → values ≡ solverAnswer w (length x) mat rhs x
-        → r ≡ degreeUsed ds (fitBox w ds fs (at values)) → out ≡ fitBox w ds fs (at values)
-        → Answered w (length rhs) (length x) ds fs (system w (length x) mat rhs) out (accepted r)
-    answered-accepted e values out r v p q =
-        record {
-          says = ap accepted (p ∙ ap (degreeUsed ds) same) ∙ sym (ap (λ (b : Bool). reply (cond b 0 10) (degreeUsed ds found)) (success e));
-          leaves = q ∙ same ∙ sym (ap (λ (b : Bool). cond b found (tabulate (cells ds) (λ n. 0))) (success e));
-        }
-      where
-        found : List ℕ
-        found = fitBox w ds fs (substituted w cols state)
-
-        entry : (c : ℕ) → c < length fs → at values c ≡ substituted w cols state c
-        entry c l =
+  -- the elimination finds an answer
+  pub concluded-accepted : 0 ≡ solverNumber w (length x) mat rhs x → (values : List ℕ) → values ≡ solverAnswer w (length x) mat rhs x
+      → Concluded w (length rhs) (length x) (eliminated w (length rhs) (length x) (system w (length x) mat rhs)) values true
+  concluded-accepted e values v =
+      record {
+        success = sym success;
+        values =
+            λ p c l.
             ap (λ (t : List ℕ). at t c) (v ∙ answer-eq)
-            ∙ at-tabulate cols _ c (rw (sym count) at l)
-            ∙ ap (λ (b : Bool). cond b (substituted w cols state c) 0) (success e)
+            ∙ at-tabulate cols _ c l
+            ∙ ap (λ (b : Bool). cond b (substituted w cols state c) 0) success;
+      }
+    where
+      go : (b : Bool) → _≡_ {A = ℕ} 0 (cond b 0 10) → b ≡ true
+      go true p = refl
+      go false p = absurd (suc-ne-zero 9 (sym p))
 
-        same : fitBox w ds fs (at values) ≡ found
-        same = fitBox-cong w ds fs (at values) (substituted w cols state) entry
+      success : succeeds w (length rhs) cols state ≡ true
+      success = go (succeeds w (length rhs) cols state) (e ∙ number-eq)
 
-    -- and none
-    pub answered-refused : (refusal : Refusal) → code refusal ≡ solverNumber w (length x) mat rhs x → (out : List ℕ) → out ≡ tabulate (cells ds) (λ n. 0)
-        → Answered w (length rhs) (length x) ds fs (system w (length x) mat rhs) out (refused (code refusal))
-    answered-refused refusal e out q =
-        let none = go (succeeds w (length rhs) cols state) (e ∙ number-eq) in
+  -- and none
+  pub concluded-refused : (refusal : Refusal) → code refusal ≡ solverNumber w (length x) mat rhs x → (values : List ℕ)
+      → Concluded w (length rhs) (length x) (eliminated w (length rhs) (length x) (system w (length x) mat rhs)) values false
+  concluded-refused refusal e values =
+      record { success = sym (go (succeeds w (length rhs) cols state) (e ∙ number-eq)); values = λ p. absurd (false≢true p) }
+    where
+      go : (b : Bool) → code refusal ≡ cond b 0 10 → b ≡ false
+      go true p = absurd (suc-ne-zero (pred (code refusal)) (sym (code-suc refusal) ∙ p))
+      go false p = refl
+
+-- ---- the answer from the values
+
+module _ (w rows cols : ℕ) (ds : List ℕ) (fs : List (List ℕ)) (A : ℕ → ℕ → ℕ) (values : List ℕ) where
+  abbrev found : List ℕ
+  found = fitBox w ds fs (substituted w cols (eliminated w rows cols A))
+
+  module _ {b : Bool} (k : Concluded w rows cols (eliminated w rows cols A) values b) where
+    pub answered-accepted : cols ≡ length fs → b ≡ true → (out : List ℕ) (r : ℕ)
+        → r ≡ degreeUsed ds (fitBox w ds fs (at values)) → out ≡ fitBox w ds fs (at values) → Answered w rows cols ds fs A out (accepted r)
+    answered-accepted count e out r p q =
+        let same : fitBox w ds fs (at values) ≡ found = fitBox-cong w ds fs _ _ (λ c l. k .values e c (rw (sym count) at l)) in
+        let success = sym e ∙ k .success in
         record {
-          says = none .0 (degreeUsed ds (fitBox w ds fs (substituted w cols state)));
-          leaves =
-              q ∙ sym (ap (λ (b : Bool). cond b (fitBox w ds fs (substituted w cols state)) (tabulate (cells ds) (λ n. 0))) (none .1));
+          says = ap accepted (p ∙ ap (degreeUsed ds) same) ∙ ap (λ (t : Bool). reply (cond t 0 10) (degreeUsed ds found)) success;
+          leaves = q ∙ same ∙ ap (λ (t : Bool). cond t found (tabulate (cells ds) (λ n. 0))) success;
         }
-      where
-        go : (b : Bool) → code refusal ≡ cond b 0 10 → ((v : ℕ) → refused (code refusal) ≡ reply (cond b 0 10) v) × (b ≡ false)
-        go true p = absurd (suc-ne-zero (pred (code refusal)) (sym (code-suc refusal) ∙ p))
-        go false p = (λ v. ap refused p, refl)
+
+    pub answered-refused : b ≡ false → (out : List ℕ) (r : Reply) → r ≡ refused 10 → out ≡ tabulate (cells ds) (λ n. 0)
+        → Answered w rows cols ds fs A out r
+    answered-refused e out r p q =
+        let success = sym e ∙ k .success in
+        record {
+          says = p ∙ ap (λ (t : Bool). reply (cond t 0 10) (degreeUsed ds found)) success;
+          leaves = q ∙ ap (λ (t : Bool). cond t found (tabulate (cells ds) (λ n. 0))) success;
+        }

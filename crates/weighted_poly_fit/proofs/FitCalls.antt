@@ -13,7 +13,8 @@ use Rattle.meaning.specs.Boxes.{cells}
 use Rattle.meaning.specs.Replies.{Reply, refused, between}
 use Rattle.meaning.specs.Settings.{settingsNumber, first}
 use Rattle.meaning.specs.Calls.{reply, left}
-use Rattle.meaning.specs.Fit.{columns, fitSystem, degreeUsed, Fit, fitRows, fitColumns, fitCause, fitState, fitSucceeds, fitAnswer, fitNumber, fitReply, fitOut, fitMatrix, fitRight}
+use Rattle.meaning.specs.Fit.{columns, fitSystem, degreeUsed, Fit, fitRows, fitColumns}
+use Rattle.meaning.specs.Fit.{fitCause, fitState, fitSucceeds, fitAnswer, fitNumber, fitReply, fitOut, fitMatrix, fitRight}
 use Rattle.answers.specs.declared.Refusal.{Refusal}
 use Rattle.answers.specs.Said.{code}
 use Rattle.answers.specs.Laws.{reply-code, first-code, left-code}

@@ -202,8 +202,8 @@ pub fn recover_weighted_poly(
     right: &mut [u64],
     out: &mut [u64],
 ) -> Number
-    ensures says { λ r. ⌜ said r ≡ fitReply (fitOf total bitwidth (now (support .entry)) «max_degree» «grid_degree» (now (weights .entry)) (now (targets .entry))
-        (now (matrix .entry)) (now (right .entry)) (now (out .entry))) ⌝ }
+    ensures says { λ r. ⌜ said r ≡ fitReply (fitOf total bitwidth (now (support .entry)) «max_degree» «grid_degree» (now (weights .entry))
+        (now (targets .entry)) (now (matrix .entry)) (now (right .entry)) (now (out .entry))) ⌝ }
     ensures leaves { λ r. ⌜ (now (out .exit) ≡ fitOut (fitOf total bitwidth (now (support .entry)) «max_degree» «grid_degree» (now (weights .entry))
         (now (targets .entry)) (now (matrix .entry)) (now (right .entry)) (now (out .entry))))
         × (now (matrix .exit) ≡ fitMatrix (fitOf total bitwidth (now (support .entry)) «max_degree» «grid_degree» (now (weights .entry))

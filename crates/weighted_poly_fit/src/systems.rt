@@ -2,9 +2,12 @@
 ghost use mathlib.Core.Path.{_≡_};
 ghost use Prim.Native.Nat.{_*_, _≤_};
 ghost use lib.ListN.{length};
+ghost use Rattle.meaning.specs.Tables.{tabulate};
 ghost use Rattle.meaning.specs.Boxes.{cells};
-ghost use Rattle.meaning.specs.Elimination.{joined, system};
+ghost use Rattle.meaning.specs.Replies.{refused};
+ghost use Rattle.meaning.specs.Elimination.{joined, system, eliminated};
 ghost use Rattle.meaning.specs.Fit.{columns, fitSystem};
+ghost use Rattle.two_adic_solver.specs.Solved.{Concluded};
 ghost use Rattle.weighted_poly_fit.specs.Fitting.{Shaped, Solvable, Answered};
 ghost use Rattle.answers.specs.Said.{said};
 use crate::answer;
@@ -12,6 +15,7 @@ use crate::columns;
 use crate::matrix;
 use answers::Number;
 use answers::Outcome;
+use answers::Refusal;
 
 // Lists the columns and fills the matrix and the right side of the system. `degrees` has the highest exponents, all below `size`, and `grid` the degrees of
 // the grid; there are `cols` columns.
@@ -55,8 +59,30 @@ pub(crate) fn fill_system(
     matrix::fill_right(right, targets, bitwidth);
 }
 
-// Solves the system of the matrix and the right side, which are used up, into `values`. `out` gets the box of the answer, and the result is the degree used;
-// where the elimination finds no answer `out` gets zeros.
+// Solves the system of the matrix and the right side, which are used up, into `values`. The result says whether the elimination finds an answer.
+fn solve(matrix: &mut [u64], right: &mut [u64], values: &mut [u64], bitwidth: u32) -> bool
+    requires { ⌜ Solvable bitwidth (now matrix) (now right) (now values) ⌝ }
+    ensures { λ r. ⌜ Concluded bitwidth (length (now (right .entry))) (length (now (values .entry)))
+        (eliminated bitwidth (length (now (right .entry))) (length (now (values .entry)))
+        (system bitwidth (length (now (values .entry))) (now (matrix .entry)) (now (right .entry)))) (now (values .exit)) r ⌝ }
+{
+    match two_adic_solver::solver::solve_2adic(matrix, right, values.len(), bitwidth, values) {
+        Outcome::Refused(_) => false,
+        Outcome::Accepted => true,
+    }
+}
+
+// The refusal where the elimination finds no answer: the whole output is set to zero.
+fn no_answer(out: &mut [u64]) -> Number
+    ensures says { λ r. ⌜ said r ≡ refused 10 ⌝ }
+    ensures leaves { λ r. ⌜ now (out .exit) ≡ tabulate (length (now (out .entry))) (λ n. 0) ⌝ }
+{
+    tables::clear(out);
+    Number::Refused(Refusal::NoAnswer)
+}
+
+// Solves the system and fills `out` with the box of the answer; the result is the degree used. Where the elimination finds no answer `out` gets zeros.
+// Matrix, right side and values are used up.
 pub(crate) fn answer_system(
     matrix: &mut [u64],
     right: &mut [u64],
@@ -74,18 +100,9 @@ pub(crate) fn answer_system(
         (columns (now (degrees .entry)) most)
         (system bitwidth (length (now (values .entry))) (now (matrix .entry)) (now (right .entry))) (now (out .exit)) (said r) ⌝ }
 {
-    match two_adic_solver::solver::solve_2adic(matrix, right, values.len(), bitwidth, values) {
-        Outcome::Refused(refusal) => {
-            tables::clear(out);
-            Number::Refused(refusal)
-        }
-        Outcome::Accepted => Number::Value(answer::fill_answer(
-            out,
-            values,
-            exponents,
-            degrees,
-            most,
-            bitwidth,
-        )),
+    if !solve(matrix, right, values, bitwidth) {
+        return no_answer(out);
     }
+    let degree = answer::fill_answer(out, values, exponents, degrees, most, bitwidth);
+    Number::Value(degree)
 }

@@ -86,4 +86,5 @@ fit-box-spec =
     .before .before .before .before .before .before .before .before .before in
     let e = c .before .before .before .before .before .before .before .before .before .before .before .before .before .before .before .before in
     let t = c .before .before .before .before .before .before .before .before .before .before in
-    fitted-passed (asked s) (small e) (sym (tested (t .before)) ∙ not-false _ (t .if2 .left)) (c .before .before .before .before .before .before .fit-tables .ensures)))
+    let k = c .before .before .before .before .before .before .fit-tables in
+    fitted-passed (asked s) (small e) (sym (tested (t .before)) ∙ not-false _ (t .if2 .left)) (k .ensures)))
