@@ -1,16 +1,16 @@
 -- What the program prints, from the parts that the reader hands over.
 use mathlib.Core.Path.{_≡_}
-use Prim.Native.Nat.{ℕ, _≤_}
+use Prim.Native.Nat.{ℕ}
 use mathlib.Core.Bool.{Bool, cond}
 use mathlib.Core.List.{List}
 use lib.Dec.{eqb}
-use lib.ListN.{length, take, drop, replicate}
+use lib.ListN.{take, drop, replicate}
 use Rattle.meaning.specs.Tables.{at}
 use Rattle.meaning.specs.Boxes.{cells}
 use Rattle.meaning.specs.Recovery.{accepts, answer}
 use Rattle.meaning.specs.Calls.{recoveryNumber, recoveryLeft}
 use Rattle.bench_file.specs.Layout.{Head, Content, Says, degreesOf, headNumber, acceptedText, refusedText, benchText}
-use Rattle.bench_file.specs.Steps.{State, state, noneRead, fed}
+use Rattle.bench_file.specs.Steps.{state, noneRead, fed}
 use Rattle.bench_file.specs.Printed.{printed, printedSize}
 use Rattle.bench_file.specs.Verdict.{verdict, narrowed, lowered}
 use Rattle.bench_file.specs.declared.answer.Written.{Written}

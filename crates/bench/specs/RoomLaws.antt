@@ -1,24 +1,22 @@
 -- The longest text has 1,122,347 bytes: 4,096 lines of 12 exponents and a coefficient, after the first line.
-use mathlib.Core.Path.{_≡_, refl, sym, _∙_, ap, ap₂, subst}
+use mathlib.Core.Path.{_≡_, refl, ap, subst}
 use mathlib.Core.Bool.{Bool, true, false, _||_, cond, true≢false}
-use mathlib.Core.List.{List, [], _∷_}
+use mathlib.Core.List.{List}
 use mathlib.Core.Logic.{⊎-elim}
 use Prim.Native.Nat.{ℕ, zero, suc, _+_, _*_, _-_, _≤_, _<_}
 use native.Mathlib.Nat.{suc-ne-zero, mul-le-mul-left}
 use native.Mathlib.Omega.{arith}
 use borrow.Author.Tests.{eqb-false, eqb-true}
-use lib.Dec.{eqb, ltb, leb}
+use lib.Dec.{eqb, ltb}
 use lib.ListN.{length, replicate, length-replicate}
-use Rattle.meaning.specs.Tables.{tabulate}
 use Rattle.meaning.specs.Boxes.{cells}
 use Rattle.meaning.specs.Replies.{between}
-use Rattle.meaning.specs.Settings.{cube, some, repeated, settingsNumber}
-use Rattle.meaning.specs.Recovery.{accepts, answer}
+use Rattle.meaning.specs.Settings.{some, settingsNumber}
+use Rattle.meaning.specs.Recovery.{answer}
 use Rattle.theory.specs.Tables.{length-tabulate}
 use Rattle.bench_file.specs.Layout.{Head, Content, ill-head, ill-values, whole, degreesOf, headNumber, benchNumber, nonZeros, acceptedText, refusedText, benchText}
 use Rattle.bench_file.specs.PrintLaws.{length-accepted, length-refused, non-zeros-few}
 use Rattle.bench_file.specs.HeadLines.{lt-or-ge}
-use Rattle.bench.specs.Answers.{textFor}
 use Rattle.bench.specs.AnswerLaws.{none-first, head-settings, head-cells}
 
 -- no degree is 0 where strict settings pass

@@ -105,7 +105,8 @@ fn answer_parts(
 ) -> Written
     requires { ⌜ (length (now support) ≤ 20) × (length (now values) ≡ 4096) ⌝ }
     ensures says { λ r. ⌜ r ≡ printedSize (textOf reading (asked width total degree (now (support .entry))) count (now (values .entry))) (now (out .entry)) ⌝ }
-    ensures leaves { λ r. ⌜ now (out .exit) ≡ printed (textOf reading (asked width total degree (now (support .entry))) count (now (values .entry))) (now (out .entry)) ⌝ }
+    ensures leaves { λ r. ⌜ now (out .exit) ≡ printed (textOf reading (asked width total degree (now (support .entry))) count (now (values .entry)))
+        (now (out .entry)) ⌝ }
 {
     let mut cells: u64 = 0;
     let settings = answers::deliver(box_cells(support, total, width, degree), &mut cells);

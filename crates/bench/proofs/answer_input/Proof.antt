@@ -1,5 +1,5 @@
 use borrow.Author.Needs.{needs}
-use mathlib.Core.Path.{_≡_, sym, _∙_}
+use mathlib.Core.Path.{_≡_}
 use denote.Ref.{now}
 use Prim.Native.Nat.{ℕ}
 use Rattle.bench_file.specs.declared.answer.Written.{Written}

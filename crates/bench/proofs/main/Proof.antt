@@ -1,6 +1,5 @@
 use borrow.Author.Needs.{needs}
-use mathlib.Core.Path.{_≡_, sym, subst}
-use native.Mathlib.Omega.{arith}
+use mathlib.Core.Path.{sym, subst}
 use Prim.Native.Nat.{_≤_}
 use lib.ListN.{length}
 use lib.Seq.{length-take-le}
@@ -9,12 +8,6 @@ use Rattle.bench.specs.Endings.{Answered}
 use Rattle.bench.specs.EndingLaws.{text-inside}
 use Rattle.bench.proofs.main.Statement.{statement}
 use Rattle.bench.proofs.main.Tie as tie
-use Rattle.bench.proofs.main.Reads as reads
-use Rattle.bench.proofs.main.Lts as lts
-use Rattle.bench.proofs.answer_input.Reads as answer-input-reads
-use Rattle.bench.proofs.print.Reads as print-reads
-use Rattle.bench.proofs.text_room.Reads as text-room-reads
-use Rattle.io.proofs.write_all.Reads as write-all-reads
 
 -- the text lies inside its buffer
 inside-of : (c : tie.After-known-told) → c .before .size .given .0 .0 ≤ length (c .before .before .before .before .answer-input .last .0)

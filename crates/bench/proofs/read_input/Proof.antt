@@ -1,12 +1,9 @@
 use Rattle.bench.proofs.read_input.Statement.{statement}
-use mathlib.Core.Path.{_≡_, refl, sym, _∙_, ap, ap₂}
-use mathlib.Core.List.{List, [], _++_}
+use mathlib.Core.Path.{_≡_, refl, sym, _∙_}
 use denote.Ref.{now}
 use borrow.Author.Needs.{needs}
 use native.Mathlib.Omega.{arith}
-use Prim.Native.Nat.{ℕ}
 use lib.ListN.{length}
-use Rattle.bench_file.specs.Steps.{noneRead, state, fed}
 use Rattle.bench.specs.Answers.{Led}
 use Rattle.bench.specs.AnswerLaws.{led-none, led-next}
 use Rattle.bench.proofs.read_input.Tie as tie

@@ -1,7 +1,5 @@
 use borrow.Author.Needs.{needs}
-use mathlib.Core.Path.{_≡_, sym, _∙_}
 use native.Mathlib.Omega.{arith}
-use Prim.Native.Nat.{_≤_, _<_}
 use mathlib.Core.Bool.{true}
 use denote.Ref.{now}
 use Rattle.meaning.specs.Boxes.{cells}
