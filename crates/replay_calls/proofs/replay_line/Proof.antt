@@ -2,11 +2,11 @@ use borrow.Author.Needs.{needs}
 use mathlib.Core.Path.{sym}
 use native.Mathlib.Omega.{arith}
 use lib.Seq.{length-take-le}
-use Rattle.replay_boxes.proofs.replay_line.Statement.{statement}
-use Rattle.replay_boxes.proofs.replay_line.Tie as tie
-use Rattle.replay_boxes.proofs.replay_line.Reads as reads
-use Rattle.replay_boxes.proofs.replay_line.Lts as lts
-use Rattle.replay_boxes.proofs.run.Reads as run-reads
+use Rattle.replay_calls.proofs.replay_line.Statement.{statement}
+use Rattle.replay_calls.proofs.replay_line.Tie as tie
+use Rattle.replay_calls.proofs.replay_line.Reads as reads
+use Rattle.replay_calls.proofs.replay_line.Lts as lts
+use Rattle.replay_calls.proofs.run.Reads as run-reads
 
 -- src/main.rt:98:9
 returns : tie.Need-returns

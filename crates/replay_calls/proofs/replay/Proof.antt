@@ -1,11 +1,11 @@
-use Rattle.replay_boxes.proofs.replay.Statement.{statement}
+use Rattle.replay_calls.proofs.replay.Statement.{statement}
 use borrow.Author.Needs.{needs}
 use Prim.Native.Nat.{_≤_, _-_}
 use lib.ListN.{length}
-use Rattle.replay_boxes.proofs.replay.Tie as tie
-use Rattle.replay_boxes.proofs.replay.Reads as reads
-use Rattle.replay_boxes.proofs.replay.Lts as lts
-use Rattle.replay_boxes.proofs.read_byte.Reads as read-byte-reads
+use Rattle.replay_calls.proofs.replay.Tie as tie
+use Rattle.replay_calls.proofs.replay.Reads as reads
+use Rattle.replay_calls.proofs.replay.Lts as lts
+use Rattle.replay_calls.proofs.read_byte.Reads as read-byte-reads
 use Rattle.replay_text.proofs.Line.empty.Reads as empty-reads
 
 abbrev Inv-loop : tie.InvT-loop

@@ -1,19 +1,14 @@
-// Replays the Rust program's answers of the conversions, the normal form, recovery and singleton powers. Each line of standard input is a case, decimal
-// numbers: OP WIDTH DEGREE K CELLS and CELLS numbers, with OP 1 to_factorial_basis, 2 to_monomial_basis, 3 normalize_polynomial, 4 recover_multivar_poly,
-// 5 recover_singleton_powers (DEGREE 0, K variables); the support is the first K variables. For each the number of the answer and the table that is left
-// are printed. The file `stdin` beside src/ has the cases, `stdout` what the Rust program answered (tests/oracle/run --sample conversions and
-// --sample recovery print both; recovery's OP is raised by 3).
+// Replays the Rust program's answers of the conversions, the normal form, recovery and singleton powers; systems.rt has the solvers and the fit. Each line
+// of standard input is a case, decimal numbers: OP WIDTH DEGREE K CELLS and CELLS numbers, with OP 1 to_factorial_basis, 2 to_monomial_basis,
+// 3 normalize_polynomial, 4 recover_multivar_poly, 5 recover_singleton_powers (DEGREE 0, K variables); the support is the first K variables. For each the
+// number of the answer and the table that is left are printed. The file `stdin` beside src/ has the cases, `stdout` what the Rust program answered
+// (tests/oracle/run --sample conversions, --sample recovery and --sample systems print both; recovery's OP is raised by 3).
+mod print;
+mod systems;
+
 use answers::Outcome;
 use answers::Refusal;
 use replay_text::Line;
-
-fn low32(x: u64) -> u32 {
-    (x % 0x1_0000_0000) as u32
-}
-
-fn low8(x: u64) -> u8 {
-    (x % 256) as u8
-}
 
 // The call that OP names.
 fn call(
@@ -44,16 +39,6 @@ fn call(
         5 => singleton_power_recovery::recover_singleton_powers(given, count, width, out),
         _ => Outcome::Refused(Refusal::OutOfRange),
     }
-}
-
-fn print_table(table: &[u64]) {
-    let mut i = 0;
-    while i < table.len() {
-        io::write_all(1, b" ");
-        io::print_decimal(1, table[i]);
-        i += 1;
-    }
-    io::write_all(1, b"\n");
 }
 
 fn zeros() -> [u64; 128] {
@@ -87,9 +72,17 @@ fn first_variables() -> [u64; 20] {
 
 // A case on its tables.
 fn run(op: u64, width: u64, degree: u64, given: &[u64], support: &[u64], out: &mut [u64]) {
-    let outcome = call(op, given, support, low32(width), low8(degree), out);
-    io::print_decimal(1, answers::outcome_code(outcome) as u64);
-    print_table(out);
+    let outcome = call(
+        op,
+        given,
+        support,
+        print::low32(width),
+        print::low8(degree),
+        out,
+    );
+    print::number(answers::outcome_code(outcome) as u64);
+    print::table(out);
+    print::line_end();
 }
 
 // A whole line: five numbers, then the cells.
@@ -122,7 +115,12 @@ fn replay_line(numbers: &[u64], variables: &[u64], room: &mut [u64]) {
 fn answer(numbers: [u64; 128]) {
     let variables = first_variables();
     let mut room = zeros();
-    replay_line(&numbers, &variables, &mut room);
+    match numbers[0] {
+        6 => systems::replay_system(&numbers, &mut room),
+        7 => systems::replay_four(numbers),
+        8 => systems::replay_fit(&numbers, &variables, &mut room),
+        _ => replay_line(&numbers, &variables, &mut room),
+    }
 }
 
 // One byte of the text: a digit, the end of a line, or what parts two numbers.
