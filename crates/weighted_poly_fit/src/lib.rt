@@ -1,5 +1,6 @@
-// The weighted fit: its columns, its matrix, the box of its answer, and the call.
+// The weighted fit: its columns, its matrix, the box of its answer, the call, and its sizes from the settings alone.
 mod answer;
 mod columns;
 pub mod fit;
 mod matrix;
+pub mod sizes;
