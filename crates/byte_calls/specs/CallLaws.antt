@@ -11,7 +11,7 @@ use borrow.Author.Tests.{eq-eqb, ne-eqb, eqb-true, eqb-false, lt-ltb, le-ltb, lt
 use Rattle.meaning.specs.Tables.{at}
 use Rattle.meaning.specs.Boxes.{cells}
 use Rattle.meaning.specs.Replies.{Reply, accepted, refused, between}
-use Rattle.meaning.specs.Settings.{some, repeated, cube, settingsNumber, first}
+use Rattle.meaning.specs.Settings.{some, repeated, cube, settingsNumber, smallNumber, first}
 use Rattle.meaning.specs.Calls.{reply, settingsReply}
 use Rattle.theory.specs.Tables.{at-tabulate, length-tabulate}
 use Rattle.theory.specs.Indices.{some-found, some-next, some-end, length-le-of-distinct}
@@ -21,7 +21,7 @@ use Rattle.answers.specs.declared.Number.{Number}
 use Rattle.answers.specs.Said.{code, said}
 use Rattle.answers.specs.Laws.{Settled, Unsettled, settled, unsettled, reply-code, first-code}
 use Rattle.byte_calls.specs.Bytes.{numberAt, decoded}
-use Rattle.byte_calls.specs.Calls.{holds, smallNumber, boxNumber}
+use Rattle.byte_calls.specs.Calls.{holds, boxNumber}
 
 -- ---- bytes of a count of entries
 

@@ -3,3 +3,4 @@ pub mod ByteLaws
 pub mod Calls
 pub mod CallLaws
 pub mod TableLaws
+pub mod FitLaws

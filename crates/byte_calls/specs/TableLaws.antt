@@ -15,7 +15,7 @@ use Rattle.meaning.specs.Boxes.{cells}
 use Rattle.meaning.specs.Values.{value}
 use Rattle.meaning.specs.Recovery.{accepts, answer}
 use Rattle.meaning.specs.Replies.{Reply, accepted, refused, between}
-use Rattle.meaning.specs.Settings.{cube, settingsNumber, callNumber, first}
+use Rattle.meaning.specs.Settings.{cube, settingsNumber, smallNumber, callNumber, first}
 use Rattle.meaning.specs.Calls.{reply, left, inOutNumber, recoveryNumber, recoveryLeft, valueReply}
 use Rattle.theory.specs.Settings.{passes}
 use Rattle.answers.specs.declared.Refusal.{Refusal}
@@ -24,7 +24,7 @@ use Rattle.answers.specs.Said.{code, said}
 use Rattle.answers.specs.Laws.{Settled, number-accepted, value-accepted, number-refused, reply-code, first-code, left-code, settled-number, settled-call}
 use Rattle.byte_calls.specs.Bytes.{decoded, encoded}
 use Rattle.byte_calls.specs.ByteLaws.{length-decoded}
-use Rattle.byte_calls.specs.Calls.{holds, smallNumber, boxNumber, recoverCause, recoverNumber, recoverLeft, bytesValueReply}
+use Rattle.byte_calls.specs.Calls.{holds, boxNumber, recoverCause, recoverNumber, recoverLeft, bytesValueReply}
 
 none-first : (n k : ℕ) → first n k ≡ 0 → (n ≡ 0) × (k ≡ 0)
 none-first zero k e = (refl, e)
@@ -41,6 +41,14 @@ is-false false n e = refl
 -- the first n of `most` zeros are room for n entries
 pub room : (n most : ℕ) → n ≤ most → n ≡ length (take n (replicate {A = ℕ} most 0))
 room n most h = sym (length-take-le n (replicate most 0) (rw (length-replicate {A = ℕ} most 0) h))
+
+-- n of 4,096 zeros, which is what a local table of n entries has at first
+unfoldable pub zeros : ℕ → List ℕ
+zeros n = take n (replicate 4096 0)
+
+pub length-zeros : (n : ℕ) → n ≤ 4096 → length (zeros n) ≡ n
+unfolding zeros
+length-zeros n h = sym (room n 4096 h)
 
 -- a wrong length settles the number, and the table stays
 nine-first : (n k : ℕ) → n ≡ 9 → _≡_ {A = ℕ} 9 (first n k)

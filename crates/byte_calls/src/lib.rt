@@ -10,6 +10,7 @@ ghost use Rattle.byte_calls.specs.Calls.{recoverNumber, recoverLeft, byt
 
 mod checks;
 mod codec;
+pub mod fit;
 
 use answers::Number;
 use answers::Outcome;

@@ -4,7 +4,7 @@ ghost use mathlib.Core.Path.{_≡_};
 ghost use Rattle.meaning.specs.Settings.{cube};
 ghost use Rattle.meaning.specs.Replies.{told};
 ghost use Rattle.byte_calls.specs.Bytes.{decoded};
-ghost use Rattle.byte_calls.specs.Calls.{recoverNumber, recoverLeft, bytesValueReply};
+ghost use Rattle.byte_calls.specs.Calls.{recoverNumber, recoverLeft, bytesValueReply, fitHeld, fitBytesReply, fitBytesLeft};
 
 // Recovery from the values on a grid.
 #[no_mangle]
@@ -40,5 +40,40 @@ pub extern "C" fn cobra_value(
     answers::deliver(
         byte_calls::value(coeffs, support, count, total, width, degree, point),
         value,
+    )
+}
+
+// Fits a polynomial to weighted targets; `degree_used` gets the largest total degree among the coefficients that are not 0.
+#[no_mangle]
+pub extern "C" fn cobra_fit(
+    weights: &[u8],
+    targets: &[u8],
+    support: &[u8],
+    count: u64,
+    total: u32,
+    width: u32,
+    max_degree: u8,
+    grid_degree: u8,
+    out: &mut [u8],
+    degree_used: &mut u64,
+) -> u32
+    ensures says { λ r. ⌜ told r (now («degree_used» .exit)) ≡ fitBytesReply count (now (support .entry)) (now (weights .entry)) (now (targets .entry)) (now (out .entry))
+        (fitHeld total width (now (support .entry)) «max_degree» «grid_degree» (now (weights .entry)) (now (targets .entry))) ⌝ }
+    ensures leaves { λ r. ⌜ now (out .exit) ≡ fitBytesLeft count (now (support .entry)) (now (weights .entry)) (now (targets .entry)) (now (out .entry))
+        (fitHeld total width (now (support .entry)) «max_degree» «grid_degree» (now (weights .entry)) (now (targets .entry))) ⌝ }
+{
+    answers::deliver(
+        byte_calls::fit::fit(
+            weights,
+            targets,
+            support,
+            count,
+            total,
+            width,
+            max_degree,
+            grid_degree,
+            out,
+        ),
+        degree_used,
     )
 }

@@ -40,6 +40,10 @@ abbrev pub first : ℕ → ℕ → ℕ
 first zero k = k
 first (suc n) k = suc n
 
+-- the same where a box above 4,096 cells is 8
+abbrev pub smallNumber : Bool → ℕ → Bool → List ℕ → List ℕ → ℕ
+smallNumber strict total fits support ds = first (settingsNumber strict total fits support ds) (cond (ltb 4096 (cells ds)) 8 0)
+
 -- then 9 where a lent table does not have its exact length
 unfoldable pub callNumber : Bool → ℕ → Bool → List ℕ → List ℕ → Bool → ℕ
 unfolding settingsNumber

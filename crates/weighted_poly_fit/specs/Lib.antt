@@ -1,3 +1,4 @@
 pub mod Listing
 pub mod Powers
 pub mod Fitting
+pub mod Sizes

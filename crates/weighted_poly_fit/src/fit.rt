@@ -14,7 +14,7 @@ use answers::Number;
 use answers::Refusal;
 
 // The smaller of two degrees.
-fn lesser_degree(a: u8, b: u8) -> u8
+pub(crate) fn lesser_degree(a: u8, b: u8) -> u8
     ensures { λ r. ⌜ r ≡ min a b ⌝ }
 {
     if a < b { a } else { b }

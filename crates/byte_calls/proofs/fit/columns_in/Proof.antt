@@ -1,0 +1,19 @@
+-- The support is decoded, and the columns are counted for it.
+use Rattle.byte_calls.proofs.fit.columns_in.Statement.{statement}
+use borrow.Author.Needs.{needs}
+use mathlib.Core.Path.{_≡_, _∙_, ap}
+use mathlib.Core.List.{List}
+use Prim.Native.Nat.{ℕ}
+use Rattle.weighted_poly_fit.specs.Sizes.{fitSettings, columnsReply}
+use Rattle.byte_calls.proofs.fit.columns_in.Tie as tie
+
+pub columns-in-spec : {M : Type 1} → statement M
+columns-in-spec =
+    tie.close
+    (tie.spec
+    (λ c κs. search needs) (λ c κs. search needs) (λ c. search needs)
+    (λ c.
+    let k = c .before .before .before .before .before .before .before .before .args in
+    c .fit-columns .ensures
+    ∙ ap (λ (s : List ℕ). columnsReply (fitSettings (k .total) (k .width) s (k .max-degree) (k .grid-degree)))
+    (c .before .before .before .before .decode .ensures)))

@@ -1,0 +1,140 @@
+-- The matrix is measured, then the tables; what passes has room.
+use Rattle.byte_calls.proofs.fit.fit_sized.Statement.{statement}
+use borrow.Author.Needs.{needs}
+use borrow.Author.Tests.{not-true, not-false, eqb-true}
+use mathlib.Core.Path.{_≡_, refl, sym, _∙_, ap, ap₂}
+use mathlib.Core.Bool.{Bool, true, false, _&&_, false≢true}
+use mathlib.Core.List.{List}
+use Prim.Native.Nat.{ℕ, _*_, _≤_, min}
+use native.Mathlib.Nat.{le-trans, le-of-eq, min-eq-left}
+use native.Mathlib.Omega.{arith}
+use denote.Ref.{now}
+use lib.ListN.{length, take, replicate}
+use lib.Seq.{length-take-le}
+use Rattle.meaning.specs.Boxes.{cells}
+use Rattle.meaning.specs.Settings.{cube}
+use Rattle.meaning.specs.Fit.{Fit, fitRows, fitColumns}
+use Rattle.theory.specs.Settings.{take-cube}
+use Rattle.theory.specs.FitSizes.{cells-cube-le}
+use Rattle.answers.specs.declared.Refusal.the-variants.{TooLarge, WrongLength}
+use Rattle.byte_calls.specs.Bytes.{decoded}
+use Rattle.byte_calls.specs.ByteLaws.{length-decoded}
+use Rattle.byte_calls.specs.Calls.{holds, fitHeld}
+use Rattle.byte_calls.specs.TableLaws.{length-zeros}
+use Rattle.byte_calls.specs.FitLaws.{fit-large, fit-lengths, fit-done}
+use Rattle.byte_calls.proofs.fit.fit_sized.Tie as tie
+
+-- the fit that is asked for
+abbrev asked : tie.Start → Fit
+asked s = let k = s .args in fitHeld (k .total) (k .width) (now (k .support)) (k .max-degree) (k .grid-degree) (now (k .weights)) (now (k .targets))
+
+-- the entries of its matrix
+entries : (s : tie.Start) → s .args .rows * s .args .cols ≡ fitRows (asked s) * length (fitColumns (asked s))
+entries s = ap₂ _*_ (s .pre .0 .settles .counted) (s .pre .1 .0)
+
+abbrev start : tie.Else1 → tie.Start
+start c = c .before .before .before .before .before
+
+small : (c : tie.Else1) → fitRows (asked (start c)) * length (fitColumns (asked (start c))) ≤ 4096
+small c = le-trans (le-of-eq (sym (entries (start c)))) (c .if1 .left)
+
+-- the cells of the answer's box, which are no more than the grid's
+abbrev grid-of : tie.After-count-cells → tie.Else1
+grid-of c = c .before .before .before
+
+box-le : (s : tie.Start) → cells (asked s .degrees) ≤ 4096
+box-le s =
+    let k = s .args in
+    le-trans (cells-cube-le (length (decoded (now (k .support)))) (k .max-degree) (k .grid-degree))
+    (le-trans (le-of-eq (sym (s .pre .0 .settles .counted))) (s .pre .0 .small))
+
+box : (c : tie.After-lesser-degree) →
+    let s = start (c .before) in take (s .args .count) (replicate 20 (c .lesser-degree .result)) ≡ asked s .degrees
+box c =
+    let s = start (c .before) in
+    let d = c .lesser-degree .result in
+    let support = decoded (now (s .args .support)) in
+    let long = length-decoded (now (s .args .support)) (s .args .count) (s .pre .0 .bytes) in
+    ap (λ (n : ℕ). take n (replicate 20 d)) (sym long)
+    ∙ take-cube support d (le-trans (le-of-eq long) (s .pre .0 .few))
+    ∙ ap (cube support) (c .lesser-degree .ensures)
+
+counted : (c : tie.After-count-cells) → c .count-cells .result ≡ cells (asked (start (grid-of c)) .degrees)
+counted c =
+    c .count-cells .ensures
+    ∙ ap (λ (l : List ℕ). min (cells l) 65537) (box (c .before .before))
+    ∙ min-eq-left (le-trans (box-le (start (grid-of c))) (omega arith))
+
+-- what the test of the lengths says
+lengths : (c : tie.After-lengths-fit) →
+    let s = start (grid-of (c .before .before)) in
+    c .lengths-fit .result
+    ≡ (holds (now (s .args .weights)) (fitRows (asked s)) && holds (now (s .args .targets)) (fitRows (asked s))
+    && holds (now (s .args .out)) (cells (asked s .degrees)))
+lengths c =
+    let s = start (grid-of (c .before .before)) in
+    c .lengths-fit .ensures
+    ∙ ap₂ (λ (n m : ℕ). holds (now (s .args .weights)) n && holds (now (s .args .targets)) n && holds (now (s .args .out)) m)
+    (s .pre .0 .settles .counted) (counted (c .before .before))
+
+exact : (c : tie.Else2) →
+    let s = start (grid-of (c .before .before .before)) in
+    (holds (now (s .args .weights)) (fitRows (asked s)) ≡ true) × (holds (now (s .args .targets)) (fitRows (asked s)) ≡ true)
+    × (holds (now (s .args .out)) (cells (asked s .degrees)) ≡ true)
+exact c = three _ _ _ (sym (lengths (c .before)) ∙ not-false _ (c .if2 .left))
+  where
+    three : (x y z : Bool) → (x && y && z) ≡ true → (x ≡ true) × (y ≡ true) × (z ≡ true)
+    three true true z e = (refl, refl, e)
+    three true false z e = absurd (false≢true e)
+    three false y z e = absurd (false≢true e)
+
+pub fit-sized-spec : {M : Type 1} → statement M
+fit-sized-spec =
+    tie.close
+    (tie.spec
+    (λ c. search needs)
+    (λ c.
+    let s = c .before .before .before .before .before in
+    let t = fit-large _ _ _ _ _ _ (now (s .args .weights)) (now (s .args .targets)) (now (s .args .out)) (s .pre .0) TooLarge refl
+    (le-trans (c .if1 .taken) (le-of-eq (entries s))) in
+    (t .says, t .leaves))
+    (λ c κs. search needs)
+    (λ c. search needs)
+    (λ c. let s = start (c .before .before) in sym (length-take-le _ _ (s .pre .0 .few)))
+    (λ c κs. search needs)
+    (λ c κs. search needs)
+    (λ c. search needs)
+    (λ c.
+    let e = grid-of (c .before .before .before) in
+    let s = start e in
+    let t = fit-lengths _ _ _ _ _ _ (now (s .args .weights)) (now (s .args .targets)) (now (s .args .out)) (s .pre .0) WrongLength refl (small e)
+    (sym (lengths (c .before)) ∙ not-true _ (c .if2 .taken)) in
+    (t .says, t .leaves))
+    (λ c κs.
+    let l = c .before in
+    let e = grid-of (l .before .before .before) in
+    let s = start e in
+    let b = s .pre .0 in
+    let rows = b .settles .counted in
+    let n = counted (l .before .before .before) in
+    let h = exact l in (
+      (
+        b .bytes,
+        eqb-true _ _ (h .0) ∙ ap (_* 8) (sym rows),
+        eqb-true _ _ (h .1) ∙ ap (_* 8) (sym rows),
+        eqb-true _ _ (h .2) ∙ ap (_* 8) (sym n),
+      ),
+      (b .few, b .small, e .if1 .left, le-trans (le-of-eq n) (box-le s)),
+    ))
+    (λ c. search needs)
+    (λ c.
+    let r = c .before .before in
+    let l = r .before .before in
+    let e = grid-of (l .before .before .before) in
+    let s = start e in
+    let b = s .pre .0 in
+    let n = counted (l .before .before .before) in
+    let h = exact l in
+    fit-done _ _ _ _ _ _ (now (s .args .weights)) (now (s .args .targets)) (now (s .args .out)) b (small e) (h .0) (h .1) (h .2) _ _ _
+    (length-zeros _ (e .if1 .left) ∙ entries s) (length-zeros _ (b .small) ∙ b .settles .counted)
+    (length-zeros _ (le-trans (le-of-eq n) (box-le s)) ∙ n) (r .fit-held .ensures .0) (r .fit-held .ensures .1)))

@@ -1,0 +1,11 @@
+use borrow.Author.Needs.{needs}
+use mathlib.Core.Path.{_∙_}
+use Rattle.cobra.proofs.bytes.cobra_fit.Statement.{statement}
+use Rattle.cobra.proofs.bytes.cobra_fit.Tie as tie
+
+pub cobra-fit-spec : {M : Type 1} → statement M
+cobra-fit-spec =
+    tie.close
+    (tie.spec
+    (λ c κs. search needs) (λ c κs. search needs) (λ c. search needs)
+    (λ c. let e = c .before .before .before .before .fit .ensures in (c .deliver .ensures ∙ e .0, e .1)))
