@@ -1,7 +1,7 @@
 //! Samples of the Rust's solvers and of its fit for a replay without Rust: one case a line, decimal
 //! numbers with single blanks, to 128 numbers before the answer.
 //!
-//! - `6 WIDTH COLUMNS ROWS m0 .. r0 ..`, ROWS times COLUMNS entries and ROWS right sides; the answer is
+//! - `6 WIDTH COLUMNS ROWS ENTRIES m0 .. r0 ..`, ROWS times COLUMNS entries and ROWS right sides; the answer is
 //!   `NUMBER`, COLUMNS values, and matrix and right side as they are left.
 //! - `7 WIDTH m0 .. m15 r0 .. r3`: the four by four solver; `NUMBER` and four values.
 //! - `8 WIDTH MAX GRID K ROWS ENTRIES CELLS w0 .. t0 ..`, ROWS weights and ROWS targets, for a matrix of
@@ -70,7 +70,7 @@ fn system(rows: u64, columns: u64, width: u64, kind: u64, r: &mut Random) -> (Ve
 }
 
 fn print_system(printed: Printed, width: u64, columns: u64, matrix: &[u64], right: &[u64]) {
-    let head = [6, width, columns, right.len() as u64];
+    let head = [6, width, columns, right.len() as u64, matrix.len() as u64];
     let (mut left, mut side) = (matrix.to_vec(), right.to_vec());
     let found = rust::solver(&mut left, &mut side, columns as usize, width as u32);
     let (number, x) = said(found, columns as usize);

@@ -1,5 +1,5 @@
 -- The starred rows of document 01, as one list of tests on the definitions of `meaning`, and one theorem: all hold, by computation.
-use Prim.Native.Nat.{ℕ, zero, suc}
+use Prim.Native.Nat.{ℕ, zero, suc, _+_, _*_, _%_, _^_}
 use mathlib.Core.Bool.{Bool, true, false, _&&_}
 use mathlib.Core.List.{List, [], _∷_}
 use lib.Dec.{T, ltb, leb, eqb}
@@ -18,6 +18,8 @@ use Rattle.meaning.specs.Conversions.{fallingBox, powerBox, normalBox}
 use Rattle.meaning.specs.Settings.{some, repeated, settingsNumber, callNumber}
 use Rattle.meaning.specs.Calls.{sameList, recoveryNumber, recoveryLeft}
 use Rattle.meaning.specs.Singletons.{singletonAccepts, singletonAnswer, singletonSettings, singletonNumber, singletonLeft}
+use Rattle.meaning.specs.Elimination.{solverNumber, solverAnswer}
+use Rattle.meaning.specs.Fit.{fitOf, fitReply, fitOut}
 
 -- recovery at width w over the first k variables, all of degree d, says the number and leaves the table
 unfoldable pub recovers : ℕ → ℕ → ℕ → List ℕ → ℕ → List ℕ → Bool
@@ -35,8 +37,28 @@ recovers-line w v number left =
     let out : List ℕ = replicate (length v) 7 in
     eqb (singletonNumber 1 w v out) number && sameList (singletonLeft 1 w v out) left
 
+-- the fit at width w of one variable, with both degrees d, says the number and the degree used, and leaves the table
+unfoldable pub fits : ℕ → ℕ → List ℕ → List ℕ → ℕ → ℕ → List ℕ → Bool
+unfolding sameList fitReply fitOut
+fits w d weights targets number degree left =
+    let f = fitOf 1 w (0 ∷ []) d d weights targets (replicate (suc d * suc d) 7) (replicate (suc d) 7) (replicate (suc d) 7) in
+    eqb (fitReply f .number) number && eqb (fitReply f .value) degree && sameList (fitOut f) left
+
+-- the solver at width w on a matrix of `cols` columns says the number and leaves the answer
+unfoldable pub solves : ℕ → ℕ → List ℕ → List ℕ → ℕ → List ℕ → Bool
+unfolding sameList solverNumber solverAnswer
+solves w cols mat rhs number left =
+    let out : List ℕ = replicate cols 7 in
+    eqb (solverNumber w cols mat rhs out) number && sameList (solverAnswer w cols mat rhs out) left
+
+-- the values x satisfy every row of such a system
+unfoldable pub satisfies : ℕ → ℕ → List ℕ → List ℕ → List ℕ → Bool
+unfolding every sum
+satisfies w cols mat rhs x =
+    every (length rhs) (λ i. eqb (sum cols (λ c. at mat (i * cols + c) * at x c) % 2 ^ w) (at rhs i % 2 ^ w))
+
 unfoldable pub rows : List Bool
-unfolding recovers recovers-line sameList normalBox powerBox
+unfolding recovers recovers-line fits solves satisfies sameList normalBox powerBox
 rows =
     -- w 8, d 2, values 1 2 5: coefficients 1 1 1; values 0 0 1: 6
     recovers 8 1 2 (1 ∷ 2 ∷ 5 ∷ []) 0 (1 ∷ 1 ∷ 1 ∷ [])
@@ -55,6 +77,11 @@ rows =
     -- singleton w 2, values 3 0 1 2: degree 1, coefficient 1; 0 0 1 0: 6
     ∷ recovers-line 2 (3 ∷ 0 ∷ 1 ∷ 2 ∷ []) 0 (0 ∷ 1 ∷ 0 ∷ 0 ∷ [])
     ∷ recovers-line 2 (0 ∷ 0 ∷ 1 ∷ 0 ∷ []) 6 (0 ∷ 0 ∷ 0 ∷ 0 ∷ [])
+    -- fit w 8, weights 2 2, values 2 6, degrees 1: 1 + 2x, degree_used 1
+    ∷ fits 8 1 (2 ∷ 2 ∷ []) (2 ∷ 6 ∷ []) 0 1 (1 ∷ 2 ∷ [])
+    -- solver w 3, rows (4, 1 | 2), (0, 4 | 0): 10, though (0, 2) solves it
+    ∷ solves 3 2 (4 ∷ 1 ∷ 0 ∷ 4 ∷ []) (2 ∷ 0 ∷ []) 10 (0 ∷ 0 ∷ [])
+    ∷ satisfies 3 2 (4 ∷ 1 ∷ 0 ∷ 4 ∷ []) (2 ∷ 0 ∷ []) (0 ∷ 2 ∷ [])
     ∷ []
 
 unfoldable pub all : List Bool → Bool
@@ -62,5 +89,5 @@ all [] = true
 all (b ∷ bs) = b && all bs
 
 pub all-rows-hold : T (all rows)
-unfolding all rows recovers recovers-line tabulate sum factorial twosIn twos oddPart capFrom degreeCap lifted inverse residue stirling1 stirling2 fallingLine powerLine cells digits cell along weight oddFactor bound minus diff diffs newton differences grid difference divides coefficient every accepts answer fallingBox powerBox normalBox some repeated settingsNumber callNumber sameList recoveryNumber recoveryLeft singletonAccepts singletonAnswer singletonSettings singletonNumber singletonLeft
+unfolding all rows recovers recovers-line fits solves satisfies tabulate sum factorial twosIn twos oddPart capFrom degreeCap lifted inverse residue stirling1 stirling2 fallingLine powerLine cells digits cell along weight oddFactor bound minus diff diffs newton differences grid difference divides coefficient every accepts answer fallingBox powerBox normalBox some repeated settingsNumber callNumber sameList recoveryNumber recoveryLeft singletonAccepts singletonAnswer singletonSettings singletonNumber singletonLeft
 all-rows-hold = tt

@@ -62,5 +62,4 @@ pub mod ColumnValues
 pub mod FitBoxes
 pub mod FitSizes
 pub mod FitLaws
-pub mod SolverRows
 pub mod Singletons

@@ -21,6 +21,7 @@ use Rattle.meaning.specs.Elimination.{State, quotient, height, chosen, step}
 use Rattle.theory.specs.Pivots.{Found, Missing, chosen-cases, found-unused, found-twos}
 use Rattle.theory.specs.Elimination.{kept, lessPivot, step-kept, kept-pivot}
 use Rattle.theory.specs.StepLaws.{minus-none, quotient-zero}
+use Rattle.theory.specs.Parts.{part, at-part}
 use Rattle.theory.specs.ShownStates.{Shows}
 use Rattle.two_adic_solver.specs.Rows.{Subtracted}
 use Rattle.two_adic_solver.specs.Shown.{clearedRow, upTo, Clearing}
@@ -89,24 +90,27 @@ module _ (w t p c i : ℕ) (s : State) where
               ∙ here k j x
           go k j (no x) = sym (cleared-other b k j x)
 
-      -- the multiple subtracted from column c on, and from the right side
-      module _ (zeros : (j : ℕ) → j < c → s .entry p j ≡ 0) (lp : p < rows) (li : i < rows) (lc : c < cols) (m : ℕ) (em : m ≡ q)
-          (mat′ : List ℕ) (r : Subtracted (2 ^ w) m (p * cols + c) (i * cols + c) (cols - c) mat mat′)
+      -- the multiple subtracted from n columns from c on, outside of which the pivot row is 0, and from the right side
+      module _ (n : ℕ) (zeros : (j : ℕ) → j < c → s .entry p j ≡ 0) (far : (j : ℕ) → c + n ≤ j → j < cols → s .entry p j ≡ 0)
+          (lp : p < rows) (li : i < rows) (lc : c + n ≤ cols) (m : ℕ) (em : m ≡ q)
+          (mat′ : List ℕ) (r : Subtracted (2 ^ w) m (p * cols + c) (i * cols + c) n mat mat′)
           (v : ℕ) (ev : v ≡ minus (2 ^ w) (at rhs i) (m * at rhs p)) where
-        entry-here : (j : ℕ) → j < cols → Dec (c ≤ j) → at mat′ (i * cols + j) ≡ less j
-        entry-here j l (yes x) =
+        untouched : (j : ℕ) → j < cols → s .entry p j ≡ 0 → at mat′ (i * cols + j) ≡ at mat (i * cols + j) → at mat′ (i * cols + j) ≡ less j
+        untouched j l none e = e ∙ h .entries i j li l ∙ sym (minus-none (small j) (ap (q *_) none ∙ mul-zero q))
+
+        entry-here : (j : ℕ) → j < cols → Dec (c ≤ j) → Dec (c + n ≤ j) → at mat′ (i * cols + j) ≡ less j
+        entry-here j l (yes x) (no y) =
             let d : i * cols + j ≡ i * cols + c + (j - c) = omega arith in
             let f : i * cols + c + (j - c) ≡ i * cols + j = omega arith in
             let g : p * cols + c + (j - c) ≡ p * cols + j = omega arith in
             ap (at mat′) d
-            ∙ r .inside (j - c) (omega arith)
+            ∙ r .inside (j - c) (omega (arith, lt-of-not-le y))
             ∙ ap₂ (λ (x y : ℕ). minus (2 ^ w) x (m * y)) (ap (at mat) f ∙ h .entries i j li l) (ap (at mat) g ∙ h .entries p j lp l)
             ∙ ap (λ (n : ℕ). minus (2 ^ w) (s .entry i j) (n * s .entry p j)) em
-        entry-here j l (no x) =
+        entry-here j l (no x) y =
             let k : j < c = lt-of-not-le x in
-            r .before (i * cols + j) (omega arith)
-            ∙ h .entries i j li l
-            ∙ sym (minus-none (small j) (ap (q *_) (zeros j k) ∙ mul-zero q))
+            untouched j l (zeros j k) (r .before (i * cols + j) (omega arith))
+        entry-here j l (yes x) (yes y) = untouched j l (far j y l) (r .after (i * cols + j) (omega arith))
 
         entry-other : (k j : ℕ) → k < rows → j < cols → (k ≡ i → ⊥) → Dec (k ≤ i) → at mat′ (k * cols + j) ≡ s .entry k j
         entry-other k j lk l ne (yes x) =
@@ -132,7 +136,7 @@ module _ (w t p c i : ℕ) (s : State) where
             }
           where
             entry : (k j : ℕ) → k < rows → j < cols → Dec (k ≡ i) → at mat′ (k * cols + j) ≡ clearedRow b w t p c i s .entry k j
-            entry k j l n (yes x) = ap (λ (y : ℕ). at mat′ (y * cols + j)) x ∙ entry-here j n (decLe c j) ∙ here k j x
+            entry k j l m (yes x) = ap (λ (y : ℕ). at mat′ (y * cols + j)) x ∙ entry-here j m (decLe c j) (decLe (c + n) j) ∙ here k j x
             entry k j l n (no x) = entry-other k j l n x (decLe k i) ∙ sym (cleared-other b k j x)
 
             right : (k : ℕ) → k < rows → Dec (k ≡ i) → at (set rhs i v) k ≡ clearedRow b w t p c i s .entry k cols
@@ -148,21 +152,24 @@ module _ (w t p c i : ℕ) (s : State) where
 -- ---- places in the matrix
 
 module _ (rows cols n : ℕ) (e : n ≡ rows * cols) where
-  -- an entry lies in the table, and so does its row from there on
+  -- an entry lies in the table, and so do k entries of its row from there on
   pub place-lt : (i c : ℕ) → i < rows → c < cols → i * cols + c < n
   place-lt i c l k = rw e (digits-lt l k)
 
-  pub row-fits : (i c : ℕ) → i < rows → c < cols → i * cols + c + (cols - c) ≤ n
-  row-fits i c l k =
+  pub row-fits : (i c k : ℕ) → i < rows → c + k ≤ cols → i * cols + c + k ≤ n
+  row-fits i c k l h =
       let row : suc i * cols ≡ i * cols + cols = omega (arith, suc-mul i cols) in
       let within : suc i * cols ≤ rows * cols = mul-le-mul-right cols l in
       omega arith
 
+  pub row-to-end : (i c : ℕ) → i < rows → c < cols → i * cols + c + (cols - c) ≤ n
+  row-to-end i c l k = row-fits i c (cols - c) l (omega arith)
+
   -- a row that begins before another ends before it
-  pub rows-apart : (p i c : ℕ) → c < cols → p * cols + c < i * cols + c → p * cols + c + (cols - c) ≤ i * cols + c
-  rows-apart p i c k l = go (decLe i p)
+  pub rows-apart : (p i c k : ℕ) → c + k ≤ cols → p * cols + c < i * cols + c → p * cols + c + k ≤ i * cols + c
+  rows-apart p i c k f l = go (decLe i p)
     where
-      go : Dec (i ≤ p) → p * cols + c + (cols - c) ≤ i * cols + c
+      go : Dec (i ≤ p) → p * cols + c + k ≤ i * cols + c
       go (yes h) = absurd (omega (arith, mul-le-mul-right cols h))
       go (no h) =
           let row : suc p * cols ≡ p * cols + cols = omega (arith, suc-mul p cols) in
@@ -242,18 +249,19 @@ module _ (w rows c p : ℕ) (used : List Bool) (s : State) (r : Clearing w rows 
             let l : i < k = lt-of-not-le h in
             cleared-other w t p c k _ (getD used k false) i j e ∙ done-row k i j l ∙ sym (done-row (k + 1) i j (omega arith))
 
-    pub column-step : (cols n : ℕ) (mat rhs mat′ rhs′ : List ℕ) → n ≡ rows
+    pub column-step : (cols n count : ℕ) (mat rhs mat′ rhs′ : List ℕ) → n ≡ rows → ((j : ℕ) → c + count ≤ j → j < cols → s .entry p j ≡ 0)
         → ((u : State) → Shows n cols u mat rhs → v ≡ inverse (u .entry p c / 2 ^ t) (w - t)
-        → ((j : ℕ) → u .entry k j < 2 ^ w) → ((j : ℕ) → j < c → u .entry p j ≡ 0)
+        → ((j : ℕ) → u .entry k j < 2 ^ w) → ((j : ℕ) → j < c → u .entry p j ≡ 0) → ((j : ℕ) → c + count ≤ j → j < cols → u .entry p j ≡ 0)
         → Shows n cols (clearedRow (getD used k false) w t p c k u) mat′ rhs′)
         → Shows rows cols (upTo w rows s c k) mat rhs → Shows rows cols (upTo w rows s c (k + 1)) mat′ rhs′
-    column-step cols n mat rhs mat′ rhs′ en f h =
+    column-step cols n count mat rhs mat′ rhs′ en far f h =
         shows-eq rows cols _ _ mat′ rhs′
         (subst (λ (m : ℕ). Shows m cols (clearedRow (getD used k false) w t p c k (upTo w rows s c k)) mat′ rhs′) en
         (f (upTo w rows s c k) (subst (λ (m : ℕ). Shows m cols (upTo w rows s c k) mat rhs) (sym en) h)
         (ev ∙ ap (λ (x : ℕ). inverse (x / 2 ^ t) (w - t)) (sym (pivot-stays k c)))
         (λ j. rw (this-row k j) (r .echelon .small k j))
-        (λ j l. pivot-stays k j ∙ unused j l)))
+        (λ j l. pivot-stays k j ∙ unused j l)
+        (λ j l m. pivot-stays k j ∙ far j l m)))
         (λ i j l. next-rows i j)
       where
         unused : (j : ℕ) → j < c → s .entry p j ≡ 0
@@ -283,14 +291,15 @@ module _ (w cols c p : ℕ) (used : List Bool) (mat₀ rhs₀ : List ℕ) (lp : 
         so-far = λ s h r. column-start w (length rhs₀) c p used s r lp cols mat₀ rhs₀ h;
       }
 
-  pub cleared-step : (lc : c < cols) (x t v : ℕ) → x ≡ at mat₀ (p * cols + c) → t ≡ twosIn w x → v ≡ inverse (x / 2 ^ t) (w - t)
+  pub cleared-step : (lc : c < cols) (x t v count : ℕ) → x ≡ at mat₀ (p * cols + c) → t ≡ twosIn w x → v ≡ inverse (x / 2 ^ t) (w - t)
+      → ((j : ℕ) → c + count ≤ j → j < cols → at mat₀ (p * cols + j) ≡ 0)
       → (mat rhs mat′ rhs′ : List ℕ) (k : ℕ) → Cleared w cols c p used mat₀ rhs₀ mat rhs k → k < length rhs
       → length mat′ ≡ length mat → length rhs′ ≡ length rhs
       → ((u : State) → Shows (length rhs) cols u mat rhs → v ≡ inverse (u .entry p c / 2 ^ t) (w - t)
-      → ((j : ℕ) → u .entry k j < 2 ^ w) → ((j : ℕ) → j < c → u .entry p j ≡ 0)
+      → ((j : ℕ) → u .entry k j < 2 ^ w) → ((j : ℕ) → j < c → u .entry p j ≡ 0) → ((j : ℕ) → c + count ≤ j → j < cols → u .entry p j ≡ 0)
       → Shows (length rhs) cols (clearedRow (getD used k false) w t p c k u) mat′ rhs′)
       → Cleared w cols c p used mat₀ rhs₀ mat′ rhs′ (k + 1)
-  cleared-step lc x t v ex et ev mat rhs mat′ rhs′ k r lk em er f =
+  cleared-step lc x t v count ex et ev far mat rhs mat′ rhs′ k r lk em er f =
       record {
         same-matrix = em ∙ r .same-matrix;
         same-right = er ∙ r .same-right;
@@ -299,7 +308,8 @@ module _ (w cols c p : ℕ) (used : List Bool) (mat₀ rhs₀ : List ℕ) (lp : 
             λ s h z.
             let e : x ≡ s .entry p c = ex ∙ h .entries p c lp lc in
             column-step w (length rhs₀) c p used s z lp t v (et ∙ ap (twosIn w) e) (ev ∙ ap (λ (y : ℕ). inverse (y / 2 ^ t) (w - t)) e) k
-            (omega (arith, r .same-right)) cols (length rhs) mat rhs mat′ rhs′ (r .same-right) f (r .so-far s h z);
+            (omega (arith, r .same-right)) cols (length rhs) count mat rhs mat′ rhs′ (r .same-right)
+            (λ j l m. sym (h .entries p j lp m) ∙ far j l m) f (r .so-far s h z);
       }
 
   pub cleared-done : (mat rhs : List ℕ) (k : ℕ) → Cleared w cols c p used mat₀ rhs₀ mat rhs k → length rhs ≤ k
@@ -307,3 +317,15 @@ module _ (w cols c p : ℕ) (used : List Bool) (mat₀ rhs₀ : List ℕ) (lp : 
       → Shows (length rhs₀) cols (step w (length rhs₀) s c) mat rhs
   cleared-done mat rhs k r l s h z =
       column-done w (length rhs₀) c p used s z lp cols k mat rhs (omega (arith, r .same-right)) (r .so-far s h z)
+
+-- ---- the pivot row's last number that is not 0
+
+-- the part of row p from column c on is 0 from place n on, and so is the row from column c + n on
+pub row-far : (mat : List ℕ) (p c cols n : ℕ) → p * cols + cols ≤ length mat → c ≤ cols
+    → ((j : ℕ) → n ≤ j → at (part (p * cols + c) (p * cols + cols) mat) j ≡ 0)
+    → (j : ℕ) → c + n ≤ j → j < cols → at mat (p * cols + j) ≡ 0
+row-far mat p c cols n fits l far j h k =
+    let place : p * cols + c + (j - c) ≡ p * cols + j = omega arith in
+    ap (at mat) (sym place)
+    ∙ sym (at-part (p * cols + c) (p * cols + cols) mat fits (j - c) (omega arith))
+    ∙ far (j - c) (omega arith)

@@ -3,3 +3,5 @@ pub mod ClearLaws
 pub mod ColumnLaws
 pub mod SubstitutionLaws
 pub mod SolverLaws
+pub mod FixedLaws
+pub mod FixedCalls

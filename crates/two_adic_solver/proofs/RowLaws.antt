@@ -2,7 +2,7 @@
 use mathlib.Core.Path.{_≡_, refl, sym, ap, ap₂, _∙_}
 use mathlib.Core.Bool.{Bool, true, false, cond, _&&_}
 use mathlib.Core.List.{List}
-use mathlib.Core.Logic.{⊎-elim, _⊎_}
+use mathlib.Core.Logic.{⊎-elim, _⊎_, inl, inr}
 use Prim.Native.Nat.{ℕ, zero, suc, _+_, _*_, _-_, _/_, _%_, _^_, _≤_, _<_, min}
 use native.Mathlib.Nat.{not-suc-le-zero, le-refl, ne-of-lt, ne-of-gt, eq-or-lt-of-le, le-of-suc-le-suc, le-of-lt, le-antisymm, min-eq-left, min-eq-right}
 use native.Mathlib.Numerals.{add-one}
@@ -24,7 +24,7 @@ use lib.Count.{trailingZeros}
 use Rattle.meaning.specs.Factorials.{twosIn}
 use Rattle.theory.specs.Trailing.{trailing-cut}
 use lib.Pow.{pow-pos}
-use lib.ListN.{length, set, length-set}
+use lib.ListN.{length, set, length-set, List·getD-eq-default}
 use lib.Seq.{getD-set-same, getD-set-other}
 use Rattle.meaning.specs.Tables.{at}
 use Rattle.meaning.specs.Differences.{minus}
@@ -215,3 +215,16 @@ module _ (m q s d n a e s′ d′ : ℕ) (t ys : List ℕ) (r : Subtracted m q s
       after : (j : ℕ) → d + n ≤ j → Dec (e ≤ j) → at (put a e t ys) j ≡ at t j
       after j p (yes h) = at-put-after a e t fits order ys same-part j h
       after j p (no h) = in-put j (omega arith) (omega arith) ∙ r .after (j - a) (omega arith) ∙ in-part j (omega arith) (omega arith)
+
+-- ---- up to the last number that is not 0
+
+-- a list that is 0 from its end on, and a place less where the number before it is 0
+pub span-start : (t : List ℕ) (j : ℕ) → length t ≤ j → at t j ≡ 0
+span-start t j h = List·getD-eq-default t 0 h
+
+pub span-step : (t : List ℕ) (n : ℕ) → 0 < n → ((j : ℕ) → n ≤ j → at t j ≡ 0) → at t (n - 1) ≡ 0 → (j : ℕ) → n - 1 ≤ j → at t j ≡ 0
+span-step t n pos far e j h = go (eq-or-lt-of-le h)
+  where
+    go : (n - 1 ≡ j) ⊎ (n - 1 < j) → at t j ≡ 0
+    go (inl p) = ap (at t) (sym p) ∙ e
+    go (inr p) = far j (omega arith)

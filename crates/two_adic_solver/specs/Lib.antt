@@ -1,3 +1,4 @@
+pub mod Fixed
 pub mod Rows
 pub mod Shown
 pub mod Solved

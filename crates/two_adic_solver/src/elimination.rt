@@ -1,8 +1,8 @@
 // The elimination on a matrix and a right side: rows cleared by a pivot row, column after column.
 ghost use mathlib.Core.Path.{_≡_};
 ghost use mathlib.Core.Bool.{true, false};
-ghost use Prim.Native.Nat.{ℕ, _+_, _*_, _-_, _/_, _^_, _≤_, _<_, suc};
-ghost use lib.ListN.{length, getD};
+ghost use Prim.Native.Nat.{ℕ, _+_, _*_, _-_, _/_, _^_, _≤_, _<_};
+ghost use lib.ListN.{length};
 ghost use Rattle.meaning.specs.Tables.{at};
 ghost use Rattle.meaning.specs.Factorials.{twosIn};
 ghost use Rattle.meaning.specs.Inverses.{inverse};
@@ -12,13 +12,14 @@ ghost use Rattle.two_adic_solver.specs.Shown.{clearedRow, Clearing, Show
 use crate::rows;
 
 // Clears column `column` in one row, unless it is used: the pivot row, whose entry there has the given twos and the inverse v of its odd part, is
-// subtracted as often as it takes, from that column on and in the right side.
+// subtracted as often as it takes, in `count` columns from that one on and in the right side. The pivot row is 0 in the others.
 fn clear_row(
     matrix: &mut [u64],
     right: &mut [u64],
     used: bool,
     columns: usize,
     column: usize,
+    count: usize,
     pivot: usize,
     row: usize,
     twos: u32,
@@ -26,10 +27,11 @@ fn clear_row(
     bitwidth: u32,
 )
     requires { ⌜ (length (now matrix) ≡ length (now right) * columns) × (length (now matrix) ≤ 65536) × (column < columns) × (pivot < length (now right)) × (row < length (now right)) ⌝ }
-    requires { ⌜ (twos < bitwidth) × (bitwidth ≤ 64) ⌝ }
+    requires { ⌜ (twos < bitwidth) × (bitwidth ≤ 64) × (column + count ≤ columns) ⌝ }
     ensures { λ r. ⌜ ((s : State) → Shows (length (now (right .entry))) columns s (now (matrix .entry)) (now (right .entry))
         → v ≡ inverse (s .entry pivot column / 2 ^ twos) (bitwidth - twos)
         → ((j : ℕ) → s .entry row j < 2 ^ bitwidth) → ((j : ℕ) → j < column → s .entry pivot j ≡ 0)
+        → ((j : ℕ) → column + count ≤ j → j < columns → s .entry pivot j ≡ 0)
         → Shows (length (now (right .entry))) columns (clearedRow used bitwidth twos pivot column row s) (now (matrix .exit)) (now (right .exit))) ⌝ }
 {
     if used {
@@ -41,18 +43,11 @@ fn clear_row(
         return;
     }
     let q = rows::multiplier(entry, twos, v, bitwidth);
-    rows::subtract_row(
-        matrix,
-        pivot * columns + column,
-        target,
-        columns - column,
-        q,
-        bitwidth,
-    );
+    rows::subtract_row(matrix, pivot * columns + column, target, count, q, bitwidth);
     right[row] = rows::less(right[row], q, right[pivot], bitwidth);
 }
 
-// Clears a column: its pivot row, which is marked as used, is subtracted from the rows that are not.
+// Clears a column: its pivot row, which is marked as used, is subtracted from the rows that are not, up to its last entry that is not 0.
 fn clear_column(
     matrix: &mut [u64],
     right: &mut [u64],
@@ -71,6 +66,8 @@ fn clear_column(
     let entry = matrix[pivot * columns + column];
     let twos = rows::height(entry, false, bitwidth);
     let v = rows::pivot_inverse(entry, twos, bitwidth);
+    let start = pivot * columns;
+    let count = rows::span(&matrix[start + column..start + columns]);
     let mut row = 0;
     while row < right.len() {
         clear_row(
@@ -79,6 +76,7 @@ fn clear_column(
             used[row],
             columns,
             column,
+            count,
             pivot,
             row,
             twos,

@@ -1,7 +1,7 @@
 // The rows of a matrix modulo 2^w: numbers reduced, a column's pivot found, a multiple of the pivot row subtracted.
 ghost use mathlib.Core.Path.{_≡_};
 ghost use mathlib.Core.Bool.{cond};
-ghost use Prim.Native.Nat.{_+_, _*_, _-_, _/_, _%_, _^_, _≤_, _<_};
+ghost use Prim.Native.Nat.{ℕ, _+_, _*_, _-_, _/_, _%_, _^_, _≤_, _<_};
 ghost use lib.ListN.{length};
 ghost use lib.Dec.{ltb};
 ghost use Rattle.meaning.specs.Tables.{tabulate, at};
@@ -38,14 +38,14 @@ pub(crate) fn height(entry: u64, used: bool, bitwidth: u32) -> u32
 }
 
 // The row, if its height is below the least so far, else the row so far.
-fn lower_row(here: u32, least: u32, row: usize, so_far: usize) -> usize
+pub(crate) fn lower_row(here: u32, least: u32, row: usize, so_far: usize) -> usize
     ensures { λ r. ⌜ r ≡ cond (ltb here least) row «so_far» ⌝ }
 {
     if here < least { row } else { so_far }
 }
 
 // The lesser height.
-fn lower_height(here: u32, least: u32) -> u32
+pub(crate) fn lower_height(here: u32, least: u32) -> u32
     ensures { λ r. ⌜ r ≡ cond (ltb here least) here least ⌝ }
 {
     if here < least { here } else { least }
@@ -111,6 +111,20 @@ pub(crate) fn less(number: u64, q: u64, other: u64, bitwidth: u32) -> u64
     ensures { λ r. ⌜ r ≡ minus (2 ^ bitwidth) number (q * other) ⌝ }
 {
     less_multiple(number, q, other, arith::bitmask(bitwidth), bitwidth)
+}
+
+// How many numbers there are up to the last that is not 0.
+pub(crate) fn span(list: &[u64]) -> usize
+    ensures { λ r. ⌜ (r ≤ length (now (list .entry))) × ((j : ℕ) → r ≤ j → at (now (list .entry)) j ≡ 0) ⌝ }
+{
+    let mut n = list.len();
+    while 0 < n {
+        if list[n - 1] != 0 {
+            return n;
+        }
+        n -= 1;
+    }
+    0
 }
 
 // One row of a part less q times another: `count` numbers from `target` on, and as many from `source` on.

@@ -1,7 +1,7 @@
 // After the elimination: the tests that it leaves, and back-substitution, last column first.
 ghost use mathlib.Core.Path.{_≡_};
 ghost use mathlib.Core.Bool.{false, _||_};
-ghost use Prim.Native.Nat.{ℕ, suc, _+_, _*_, _-_, _^_, _%_, _≤_, _<_};
+ghost use Prim.Native.Nat.{ℕ, _+_, _*_, _-_, _^_, _%_, _≤_, _<_};
 ghost use lib.ListN.{length, getD};
 ghost use lib.Dec.{ltb, eqb};
 ghost use Rattle.meaning.specs.Tables.{at};

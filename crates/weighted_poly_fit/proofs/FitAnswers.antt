@@ -1,9 +1,9 @@
 -- The solved system as the answer of the fit: number, box and degree used.
 use mathlib.Core.Path.{_≡_, refl, sym, ap, ap₂, _∙_}
-use mathlib.Core.Bool.{Bool, true, false, _&&_, _||_, cond}
+use mathlib.Core.Bool.{Bool, true, false, _&&_, _||_, cond, false≢true}
 use mathlib.Core.List.{List, [], _∷_}
 use Prim.Native.Nat.{ℕ, zero, suc, pred, _*_, _%_, _/_, _≤_, _<_, suc-le-suc}
-use native.Mathlib.Nat.{zero-lt-suc, suc-ne-zero, mul-div-cancel, le-of-suc-le-suc}
+use native.Mathlib.Nat.{zero-lt-suc, suc-ne-zero, mul-div-cancel}
 use native.Mathlib.Omega.{arith}
 use borrow.Author.Tests.{lt-ltb, le-ltb, eq-eqb}
 use lib.Dec.{ltb, eqb}
@@ -11,44 +11,41 @@ use lib.ListN.{length}
 use Rattle.meaning.specs.Tables.{at, tabulate}
 use Rattle.meaning.specs.Boxes.{cells, digits}
 use Rattle.meaning.specs.Values.{bound}
-use Rattle.meaning.specs.Replies.{Reply, accepted, refused, between}
+use Rattle.meaning.specs.Replies.{Reply, accepted, refused}
 use Rattle.meaning.specs.Settings.{first}
 use Rattle.meaning.specs.Calls.{sameList, reply, left}
-use Rattle.meaning.specs.Elimination.{State, system, eliminated, substituted, succeeds, solverRows, solverCause, solverState, solverSucceeds, solverNumber, solverAnswer}
+use Rattle.meaning.specs.Elimination.{State, system, eliminated, substituted, succeeds}
+use Rattle.meaning.specs.Elimination.{solverRows, solverCause, solverState, solverSucceeds, solverNumber, solverAnswer}
 use Rattle.meaning.specs.Fit.{valueOf, fitBox, degreeUsed}
 use Rattle.theory.specs.Tables.{at-tabulate, tabulate-cong}
 use Rattle.theory.specs.Ranges.{between-true}
 use Rattle.answers.specs.declared.Refusal.{Refusal}
 use Rattle.answers.specs.Said.{code}
 use Rattle.answers.specs.Laws.{code-suc}
-use Rattle.weighted_poly_fit.specs.Fitting.{Answered}
+use Rattle.two_adic_solver.specs.Solved.{Concluded}
+use Rattle.weighted_poly_fit.specs.Fitting.{Solvable, Answered}
 
 -- ---- only the values of the columns count
 
-pub valueOf-cong : (fs : List (List ℕ)) (x y : ℕ → ℕ) (es : List ℕ) → ((c : ℕ) → c < length fs → x c ≡ y c) → valueOf fs x es ≡ valueOf fs y es
+pub valueOf-cong : (fs : List (List ℕ)) (x y : ℕ → ℕ) (es : List ℕ) → ((c : ℕ) → c < length fs → x c ≡ y c)
+    → valueOf fs x es ≡ valueOf fs y es
 unfolding valueOf
 valueOf-cong [] x y es h = refl
 valueOf-cong (f ∷ fs) x y es h =
     ap₂ (cond (sameList f es)) (h 0 (zero-lt-suc (length fs))) (valueOf-cong fs (λ i. x (suc i)) (λ i. y (suc i)) es (λ c l. h (suc c) (suc-le-suc l)))
 
-pub fitBox-cong : (w : ℕ) (ds : List ℕ) (fs : List (List ℕ)) (x y : ℕ → ℕ) → ((c : ℕ) → c < length fs → x c ≡ y c) → fitBox w ds fs x ≡ fitBox w ds fs y
+pub fitBox-cong : (w : ℕ) (ds : List ℕ) (fs : List (List ℕ)) (x y : ℕ → ℕ) → ((c : ℕ) → c < length fs → x c ≡ y c)
+    → fitBox w ds fs x ≡ fitBox w ds fs y
 unfolding fitBox
 fitBox-cong w ds fs x y h =
     tabulate-cong (cells ds) _ _ (λ n l. ap (_% bound w (digits ds n)) (valueOf-cong fs x y (digits ds n) h))
 
 -- ---- the solver on tables that fit
 
--- what the solver is given
-pub record Fits (w cols : ℕ) (mat rhs x : List ℕ) : Type 0 where
-  pub low : 2 ≤ w
-  pub high : w ≤ 64
-  pub some : 0 < cols
-  pub few : cols ≤ 256
-  pub whole : length mat ≡ length rhs * cols
-  pub small : length mat ≤ 65536
-  pub room : length x ≡ cols
+module _ (w : ℕ) (mat rhs x : List ℕ) (f : Solvable w mat rhs x) where
+  abbrev cols : ℕ
+  cols = length x
 
-module _ (w cols : ℕ) (mat rhs x : List ℕ) (f : Fits w cols mat rhs x) where
   abbrev state : State
   state = eliminated w (length rhs) cols (system w cols mat rhs)
 
@@ -70,7 +67,7 @@ module _ (w cols : ℕ) (mat rhs x : List ℕ) (f : Fits w cols mat rhs x) where
       all =
           ap₂ _&&_
           (ap₂ _&&_ (ap₂ _&&_ (lt-ltb 0 cols (f .some)) (eq-eqb _ _ (ap (_* cols) rows-eq ∙ sym (f .whole)))) (eq-eqb _ _ (sym rows-eq)))
-          (eq-eqb _ _ (f .room))
+          (eq-eqb cols cols refl)
 
   -- its number and its answer
   number-eq : solverNumber w cols mat rhs x ≡ cond (succeeds w (length rhs) cols state) 0 10
@@ -86,45 +83,58 @@ module _ (w cols : ℕ) (mat rhs x : List ℕ) (f : Fits w cols mat rhs x) where
       ∙ ap
       (λ (r : ℕ). let s = eliminated w r cols (system w cols mat rhs) in tabulate cols (λ c. cond (succeeds w r cols s) (substituted w cols s c) 0)) rows-eq
 
-  module _ (ds : List ℕ) (fs : List (List ℕ)) (count : cols ≡ length fs) where
-    -- the elimination finds an answer
-    success : 0 ≡ solverNumber w cols mat rhs x → succeeds w (length rhs) cols state ≡ true
-    success e = go (succeeds w (length rhs) cols state) (e ∙ number-eq)
-      where
-        go : (b : Bool) → _≡_ {A = ℕ} 0 (cond b 0 10) → b ≡ true
-        go true p = refl
-        go false p = absurd (suc-ne-zero 9 (sym p))
-
-    pub answered-accepted : 0 ≡ solverNumber w cols mat rhs x → (values out : List ℕ) (r : ℕ) → values ≡ solverAnswer w cols mat rhs x
-        → r ≡ degreeUsed ds (fitBox w ds fs (at values)) → out ≡ fitBox w ds fs (at values)
-        → Answered w (length rhs) cols ds fs (system w cols mat rhs) out (accepted r)
-    answered-accepted e values out r v p q =
-        record {
-          says = ap accepted (p ∙ ap (degreeUsed ds) same) ∙ sym (ap (λ (b : Bool). reply (cond b 0 10) (degreeUsed ds found)) (success e));
-          leaves = q ∙ same ∙ sym (ap (λ (b : Bool). cond b found (tabulate (cells ds) (λ n. 0))) (success e));
-        }
-      where
-        found : List ℕ
-        found = fitBox w ds fs (substituted w cols state)
-
-        entry : (c : ℕ) → c < length fs → at values c ≡ substituted w cols state c
-        entry c l =
+  -- the elimination finds an answer
+  pub concluded-accepted : 0 ≡ solverNumber w (length x) mat rhs x → (values : List ℕ) → values ≡ solverAnswer w (length x) mat rhs x
+      → Concluded w (length rhs) (length x) (eliminated w (length rhs) (length x) (system w (length x) mat rhs)) values true
+  concluded-accepted e values v =
+      record {
+        success = sym success;
+        values =
+            λ p c l.
             ap (λ (t : List ℕ). at t c) (v ∙ answer-eq)
-            ∙ at-tabulate cols _ c (rw (sym count) at l)
-            ∙ ap (λ (b : Bool). cond b (substituted w cols state c) 0) (success e)
+            ∙ at-tabulate cols _ c l
+            ∙ ap (λ (b : Bool). cond b (substituted w cols state c) 0) success;
+      }
+    where
+      go : (b : Bool) → _≡_ {A = ℕ} 0 (cond b 0 10) → b ≡ true
+      go true p = refl
+      go false p = absurd (suc-ne-zero 9 (sym p))
 
-        same : fitBox w ds fs (at values) ≡ found
-        same = fitBox-cong w ds fs (at values) (substituted w cols state) entry
+      success : succeeds w (length rhs) cols state ≡ true
+      success = go (succeeds w (length rhs) cols state) (e ∙ number-eq)
 
-    -- and none
-    pub answered-refused : (refusal : Refusal) → code refusal ≡ solverNumber w cols mat rhs x → (out : List ℕ) → out ≡ tabulate (cells ds) (λ n. 0)
-        → Answered w (length rhs) cols ds fs (system w cols mat rhs) out (refused (code refusal))
-    answered-refused refusal e out q =
+  -- and none
+  pub concluded-refused : (refusal : Refusal) → code refusal ≡ solverNumber w (length x) mat rhs x → (values : List ℕ)
+      → Concluded w (length rhs) (length x) (eliminated w (length rhs) (length x) (system w (length x) mat rhs)) values false
+  concluded-refused refusal e values =
+      record { success = sym (go (succeeds w (length rhs) cols state) (e ∙ number-eq)); values = λ p. absurd (false≢true p) }
+    where
+      go : (b : Bool) → code refusal ≡ cond b 0 10 → b ≡ false
+      go true p = absurd (suc-ne-zero (pred (code refusal)) (sym (code-suc refusal) ∙ p))
+      go false p = refl
+
+-- ---- the answer from the values
+
+module _ (w rows cols : ℕ) (ds : List ℕ) (fs : List (List ℕ)) (A : ℕ → ℕ → ℕ) (values : List ℕ) where
+  abbrev found : List ℕ
+  found = fitBox w ds fs (substituted w cols (eliminated w rows cols A))
+
+  module _ {b : Bool} (k : Concluded w rows cols (eliminated w rows cols A) values b) where
+    pub answered-accepted : cols ≡ length fs → b ≡ true → (out : List ℕ) (r : ℕ)
+        → r ≡ degreeUsed ds (fitBox w ds fs (at values)) → out ≡ fitBox w ds fs (at values) → Answered w rows cols ds fs A out (accepted r)
+    answered-accepted count e out r p q =
+        let same : fitBox w ds fs (at values) ≡ found = fitBox-cong w ds fs _ _ (λ c l. k .values e c (rw (sym count) at l)) in
+        let success = sym e ∙ k .success in
         record {
-          says = go (succeeds w (length rhs) cols state) (e ∙ number-eq) .0 (degreeUsed ds (fitBox w ds fs (substituted w cols state)));
-          leaves = q ∙ sym (ap (λ (b : Bool). cond b (fitBox w ds fs (substituted w cols state)) (tabulate (cells ds) (λ n. 0))) (go (succeeds w (length rhs) cols state) (e ∙ number-eq) .1));
+          says = ap accepted (p ∙ ap (degreeUsed ds) same) ∙ ap (λ (t : Bool). reply (cond t 0 10) (degreeUsed ds found)) success;
+          leaves = q ∙ same ∙ ap (λ (t : Bool). cond t found (tabulate (cells ds) (λ n. 0))) success;
         }
-      where
-        go : (b : Bool) → code refusal ≡ cond b 0 10 → ((v : ℕ) → refused (code refusal) ≡ reply (cond b 0 10) v) × (b ≡ false)
-        go true p = absurd (suc-ne-zero (pred (code refusal)) (sym (code-suc refusal) ∙ p))
-        go false p = (λ v. ap refused p, refl)
+
+    pub answered-refused : b ≡ false → (out : List ℕ) (r : Reply) → r ≡ refused 10 → out ≡ tabulate (cells ds) (λ n. 0)
+        → Answered w rows cols ds fs A out r
+    answered-refused e out r p q =
+        let success = sym e ∙ k .success in
+        record {
+          says = p ∙ ap (λ (t : Bool). reply (cond t 0 10) (degreeUsed ds found)) success;
+          leaves = q ∙ ap (λ (t : Bool). cond t found (tabulate (cells ds) (λ n. 0))) success;
+        }

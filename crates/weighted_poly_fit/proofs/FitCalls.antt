@@ -3,8 +3,7 @@ use mathlib.Core.Path.{_≡_, refl, sym, ap, ap₂, subst, _∙_}
 use mathlib.Core.Bool.{Bool, true, false, _&&_, cond, false≢true}
 use mathlib.Core.List.{List}
 use Prim.Native.Nat.{ℕ, zero, suc, _+_, _*_, _≤_, _<_}
-use native.Mathlib.Nat.{mul-le-mul, mul-le-mul-left, le-trans, lt-irrefl}
-use native.Mathlib.Decide.{decLe}
+use native.Mathlib.Nat.{mul-le-mul, le-trans, le-of-eq, lt-irrefl}
 use native.Mathlib.Omega.{arith}
 use borrow.Author.Tests.{lt-ltb, le-ltb, ltb-false, ltb-true, eqb-true}
 use lib.Dec.{ltb, eqb}
@@ -14,18 +13,18 @@ use Rattle.meaning.specs.Boxes.{cells}
 use Rattle.meaning.specs.Replies.{Reply, refused, between}
 use Rattle.meaning.specs.Settings.{settingsNumber, first}
 use Rattle.meaning.specs.Calls.{reply, left}
-use Rattle.meaning.specs.Elimination.{eliminated, substituted, succeeds}
-use Rattle.meaning.specs.Fit.{columns, fitSystem, fitBox, degreeUsed, Fit, fitRows, fitColumns, fitCause, fitState, fitSucceeds, fitAnswer, fitNumber, fitReply, fitOut, fitMatrix, fitRight}
+use Rattle.meaning.specs.Fit.{columns, fitSystem, degreeUsed, Fit, fitRows, fitColumns}
+use Rattle.meaning.specs.Fit.{fitCause, fitState, fitSucceeds, fitAnswer, fitNumber, fitReply, fitOut, fitMatrix, fitRight}
 use Rattle.answers.specs.declared.Refusal.{Refusal}
 use Rattle.answers.specs.Said.{code}
 use Rattle.answers.specs.Laws.{reply-code, first-code, left-code}
-use Rattle.weighted_poly_fit.specs.Fitting.{Answered, Fitted, fitWith, fitLengths, tableCause}
+use Rattle.weighted_poly_fit.specs.Fitting.{Answered, Exact, Fitted, fitWith, fitLengths, tableCause}
 use Rattle.weighted_poly_fit.proofs.ColumnCount.{columns-le-cells}
 
 -- ---- sizes
 
 -- a matrix of no more than 65,536 entries, with no more columns than rows, has no more than 256 columns
-pub columns-few : (ds : List ℕ) (most rows cols : ℕ) → cols ≡ length (columns ds most) → cells ds ≤ rows → rows * cols ≤ 65536 → cols ≤ 256
+columns-few : (ds : List ℕ) (most rows cols : ℕ) → cols ≡ length (columns ds most) → cells ds ≤ rows → rows * cols ≤ 65536 → cols ≤ 256
 columns-few ds most rows cols e h l = go (ltb 256 cols) refl
   where
     less : cols ≤ rows
@@ -78,30 +77,33 @@ lengths-eq f rows entries count e₁ e₂ e₃ =
     (ap (eqb (length (f .out))) e₃)
 
 -- and what they say where they pass
-pub record Exact (f : Fit) : Type 0 where
-  pub weights-long : length (f .weights) ≡ fitRows f
-  pub targets-long : length (f .targets) ≡ fitRows f
-  pub matrix-long : length (f .matrix) ≡ fitRows f * length (fitColumns f)
-  pub right-long : length (f .right) ≡ fitRows f
-  pub out-long : length (f .out) ≡ cells (f .degrees)
-
-pub exact : (f : Fit) → fitLengths f ≡ true → Exact f
-exact f e =
+pub exact : (f : Fit) (cols : ℕ) → cols ≡ length (fitColumns f) → cells (f .degrees) ≤ fitRows f → fitRows f ≤ 65536
+    → fitRows f * length (fitColumns f) ≤ 65536 → fitLengths f ≡ true → Exact f cols
+exact f cols n h k l e =
     let a = both _ (eqb (length (f .out)) (cells (f .degrees))) e in
     let b = both _ (eqb (length (f .right)) (fitRows f)) (a .0) in
     let c = both _ (eqb (length (f .matrix)) (fitRows f * length (fitColumns f))) (b .0) in
     let d = both (eqb (length (f .weights)) (fitRows f)) (eqb (length (f .targets)) (fitRows f)) (c .0) in
+    let m : length (f .matrix) ≡ fitRows f * length (fitColumns f) = eqb-true _ _ (c .1) in
     record {
       weights-long = eqb-true _ _ (d .0);
       targets-long = eqb-true _ _ (d .1);
-      matrix-long = eqb-true _ _ (c .1);
+      matrix-long = m ∙ ap (fitRows f *_) (sym n);
       right-long = eqb-true _ _ (b .1);
       out-long = eqb-true _ _ (a .1);
+      counted = n;
+      columns-few = columns-few (f .degrees) (f .most) (fitRows f) cols n h (le-trans (le-of-eq (ap (fitRows f *_) n)) l);
+      matrix-small = le-trans (le-of-eq m) l;
+      box-small = le-trans h k;
     }
   where
     both : (a b : Bool) → a && b ≡ true → (a ≡ true) × (b ≡ true)
     both true b p = (refl, p)
     both false b p = absurd (false≢true p)
+
+-- an equal number of columns
+pub exact-columns : {f : Fit} {cols n : ℕ} → Exact f cols → cols ≡ n → Exact f n
+exact-columns {f} e p = subst (Exact f) p e
 
 -- a fit without cause
 pub fitted-passed : (f : Fit) → fitRows f * length (fitColumns f) ≤ 65536 → fitLengths f ≡ true → {matrix right out : List ℕ} {r : Reply}
@@ -109,32 +111,32 @@ pub fitted-passed : (f : Fit) → fitRows f * length (fitColumns f) ≤ 65536 �
 fitted-passed f h e {matrix} {right} {out} {r} k = subst (λ (n : ℕ). Fitted f n matrix right out r) (sym (cause-lengths f true h e)) k
 
 -- equal degrees
-pub fitted-degrees : (w : ℕ) (most : ℕ) (weights targets matrix₀ right₀ out₀ : List ℕ) {ds ds′ gs gs′ : List ℕ} → ds ≡ ds′ → gs ≡ gs′
-    → {matrix right out : List ℕ} {r : Reply}
-    → Fitted (fitWith w ds gs most weights targets matrix₀ right₀ out₀) (tableCause (fitWith w ds gs most weights targets matrix₀ right₀ out₀)) matrix right out r
-    → Fitted (fitWith w ds′ gs′ most weights targets matrix₀ right₀ out₀) (tableCause (fitWith w ds′ gs′ most weights targets matrix₀ right₀ out₀)) matrix right out r
-fitted-degrees w most weights targets matrix₀ right₀ out₀ {ds} {ds′} {gs} {gs′} d g {matrix} {right} {out} {r} k =
-    subst (λ (l : List ℕ). Fitted (f ds′ l) (tableCause (f ds′ l)) matrix right out r) g
-    (subst (λ (l : List ℕ). Fitted (f l gs) (tableCause (f l gs)) matrix right out r) d k)
-  where
-    f : List ℕ → List ℕ → Fit
-    f a b = fitWith w a b most weights targets matrix₀ right₀ out₀
+module _ (w most : ℕ) (weights targets matrix₀ right₀ out₀ : List ℕ) where
+  abbrev fit : List ℕ → List ℕ → Fit
+  fit ds gs = fitWith w ds gs most weights targets matrix₀ right₀ out₀
+
+  pub fitted-degrees : {ds ds′ gs gs′ : List ℕ} → ds ≡ ds′ → gs ≡ gs′ → {matrix right out : List ℕ} {r : Reply}
+      → Fitted (fit ds gs) (tableCause (fit ds gs)) matrix right out r → Fitted (fit ds′ gs′) (tableCause (fit ds′ gs′)) matrix right out r
+  fitted-degrees {ds} {ds′} {gs} {gs′} d g {matrix} {right} {out} {r} k =
+      subst (λ (l : List ℕ). Fitted (fit ds′ l) (tableCause (fit ds′ l)) matrix right out r) g
+      (subst (λ (l : List ℕ). Fitted (fit l gs) (tableCause (fit l gs)) matrix right out r) d k)
 
 -- the solved system is the fit's, and the scratch tables end as zeros
-module _ (w : ℕ) (ds gs : List ℕ) (most : ℕ) (weights targets matrix right out : List ℕ) where
-  abbrev fit : Fit
-  fit = fitWith w ds gs most weights targets matrix right out
+pub fitted-solved : (f : Fit) (rows cols : ℕ) (A : ℕ → ℕ → ℕ) (matrix right out : List ℕ) (r : Reply) → rows ≡ fitRows f
+    → cols ≡ length (fitColumns f) → A ≡ fitSystem (f .width) (f .grid) (fitColumns f) (f .weights) (f .targets)
+    → Answered (f .width) rows cols (f .degrees) (fitColumns f) A out r → matrix ≡ tabulate (length (f .matrix)) (λ n. 0)
+    → right ≡ tabulate (length (f .right)) (λ n. 0) → Fitted f 0 matrix right out r
+unfolding fitSucceeds fitState fitAnswer
+fitted-solved f rows cols A matrix right out r e₁ e₂ e₃ h m s =
+    record { says = k .says; leaves-out = k .leaves; leaves-matrix = m; leaves-right = s }
+  where
+    answered : ℕ → ℕ → (ℕ → ℕ → ℕ) → Type 0
+    answered i j B = Answered (f .width) i j (f .degrees) (fitColumns f) B out r
 
-  pub fitted-solved : (rows cols : ℕ) (A : ℕ → ℕ → ℕ) (matrix′ right′ out′ : List ℕ) (r : Reply) → rows ≡ cells gs → cols ≡ length (columns ds most)
-      → A ≡ fitSystem w gs (columns ds most) weights targets → Answered w rows cols ds (columns ds most) A out′ r
-      → matrix′ ≡ tabulate (length matrix) (λ n. 0) → right′ ≡ tabulate (length right) (λ n. 0)
-      → Fitted (fitWith w ds gs most weights targets matrix right out) 0 matrix′ right′ out′ r
-  unfolding fitSucceeds fitState fitAnswer
-  fitted-solved rows cols A matrix′ right′ out′ r e₁ e₂ e₃ h m s =
-      let k = subst (λ (B : ℕ → ℕ → ℕ). Answered w (cells gs) (length (columns ds most)) ds (columns ds most) B out′ r) e₃
-      (subst (λ (n : ℕ). Answered w (cells gs) n ds (columns ds most) A out′ r) e₂
-      (subst (λ (n : ℕ). Answered w n cols ds (columns ds most) A out′ r) e₁ h)) in
-      record { says = k .says; leaves-out = k .leaves; leaves-matrix = m; leaves-right = s }
+    k : answered (fitRows f) (length (fitColumns f)) (fitSystem (f .width) (f .grid) (fitColumns f) (f .weights) (f .targets))
+    k =
+        subst (answered (fitRows f) (length (fitColumns f))) e₃
+        (subst (λ (j : ℕ). answered (fitRows f) j A) e₂ (subst (λ (i : ℕ). answered i cols A) e₁ h))
 
 -- ---- the whole call
 

@@ -1,17 +1,37 @@
--- What the parts of the fit promise: the system is solved into a box, and the tables are left as the call leaves them.
+-- What the parts of the fit ask and promise: the system is solved into a box, and the tables are left as the call leaves them.
 use mathlib.Core.Path.{_≡_}
 use mathlib.Core.Bool.{Bool, _&&_, cond}
 use mathlib.Core.List.{List, []}
-use Prim.Native.Nat.{ℕ, _*_}
+use Prim.Native.Nat.{ℕ, _*_, _≤_, _<_}
 use lib.Dec.{ltb, eqb}
 use lib.ListN.{length}
-use Rattle.meaning.specs.Tables.{tabulate}
+use Rattle.meaning.specs.Tables.{tabulate, at}
 use Rattle.meaning.specs.Boxes.{cells}
 use Rattle.meaning.specs.Replies.{Reply}
 use Rattle.meaning.specs.Settings.{first}
 use Rattle.meaning.specs.Calls.{reply, left}
 use Rattle.meaning.specs.Elimination.{eliminated, substituted, succeeds}
 use Rattle.meaning.specs.Fit.{fitBox, degreeUsed, Fit, fitRows, fitColumns, fitSucceeds, fitAnswer}
+
+-- ---- the system
+
+-- width and degrees, of the box and of the grid, of a fit; the box's are below `size`
+pub record Shaped (w size : ℕ) (ds gs : List ℕ) : Type 0 where
+  pub low : 2 ≤ w
+  pub high : w ≤ 64
+  pub same : length gs ≡ length ds
+  pub variables-few : length ds ≤ 20
+  pub narrow : size ≤ 256
+  pub below : (j : ℕ) → j < length ds → at ds j < size
+
+-- a matrix and a right side that the solver takes, with a value in x for each column
+pub record Solvable (w : ℕ) (mat rhs x : List ℕ) : Type 0 where
+  pub low : 2 ≤ w
+  pub high : w ≤ 64
+  pub some : 0 < length x
+  pub few : length x ≤ 256
+  pub whole : length mat ≡ length rhs * length x
+  pub small : length mat ≤ 65536
 
 -- the reply r and the box `out` of the solved system A, whose unknowns are the coefficients of the exponent lists fs, `cols` of them: with what the elimination
 -- makes of it, the substituted values and the degree used, or 10 and zeros
@@ -22,6 +42,8 @@ pub record Answered (w rows cols : ℕ) (ds : List ℕ) (fs : List (List ℕ)) (
   pub leaves : out
       ≡ cond (succeeds w rows cols (eliminated w rows cols A)) (fitBox w ds fs (substituted w cols (eliminated w rows cols A)))
       (tabulate (cells ds) (λ n. 0))
+
+-- ---- the call
 
 -- a fit with a degree for each variable of the box, ds, and of the grid, gs; its settings are taken to pass, so that variables and support do not matter
 abbrev pub fitWith : ℕ → List ℕ → List ℕ → ℕ → List ℕ → List ℕ → List ℕ → List ℕ → List ℕ → Fit
@@ -48,6 +70,18 @@ fitLengths f =
     && eqb (length (f .matrix)) (fitRows f * length (fitColumns f))
     && eqb (length (f .right)) (fitRows f)
     && eqb (length (f .out)) (cells (f .degrees))
+
+-- the same for a fit with `cols` columns, which is small enough
+pub record Exact (f : Fit) (cols : ℕ) : Type 0 where
+  pub weights-long : length (f .weights) ≡ fitRows f
+  pub targets-long : length (f .targets) ≡ fitRows f
+  pub matrix-long : length (f .matrix) ≡ fitRows f * cols
+  pub right-long : length (f .right) ≡ fitRows f
+  pub out-long : length (f .out) ≡ cells (f .degrees)
+  pub counted : cols ≡ length (fitColumns f)
+  pub columns-few : cols ≤ 256
+  pub matrix-small : length (f .matrix) ≤ 65536
+  pub box-small : cells (f .degrees) ≤ 65536
 
 -- the causes after the settings: 8 for the matrix, then 9, or 0
 abbrev pub tableCause : Fit → ℕ

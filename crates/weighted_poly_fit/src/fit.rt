@@ -1,20 +1,16 @@
 // The weighted fit: coefficients of falling factorials whose value at each grid point, times the weight there, is the target there, modulo 2^w.
 ghost use mathlib.Core.Path.{_≡_};
 ghost use mathlib.Core.Bool.{_&&_};
-ghost use Prim.Native.Nat.{ℕ, _*_, _≤_, _<_, min};
+ghost use Prim.Native.Nat.{_*_, _≤_, min};
 ghost use lib.Dec.{eqb};
 ghost use lib.ListN.{length};
-ghost use Rattle.meaning.specs.Tables.{at};
 ghost use Rattle.meaning.specs.Boxes.{cells};
-ghost use Rattle.meaning.specs.Elimination.{joined, system};
-ghost use Rattle.meaning.specs.Fit.{columns, fitSystem, fitOf, fitReply, fitOut, fitMatrix, fitRight};
-ghost use Rattle.weighted_poly_fit.specs.Fitting.{Answered, Fitted, fitWith, tableCause};
+ghost use Rattle.meaning.specs.Fit.{fitOf, fitReply, fitOut, fitMatrix, fitRight};
+ghost use Rattle.weighted_poly_fit.specs.Fitting.{Shaped, Exact, Fitted, fitWith, tableCause};
 ghost use Rattle.answers.specs.Said.{said};
-use crate::answer;
 use crate::columns;
-use crate::matrix;
+use crate::systems;
 use answers::Number;
-use answers::Outcome;
 use answers::Refusal;
 
 // The smaller of two degrees.
@@ -22,82 +18,6 @@ pub(crate) fn lesser_degree(a: u8, b: u8) -> u8
     ensures { λ r. ⌜ r ≡ min a b ⌝ }
 {
     if a < b { a } else { b }
-}
-
-// Lists the columns and fills the matrix and the right side of the system. `degrees` has the highest exponents, all below `size`, and `grid` the degrees of
-// the grid; there are `cols` columns.
-fn fill_system(
-    exponents: &mut [u8],
-    matrix: &mut [u64],
-    right: &mut [u64],
-    weights: &[u64],
-    targets: &[u64],
-    degrees: &[u8],
-    grid: &[u8],
-    most: u8,
-    cols: usize,
-    size: usize,
-    bitwidth: u32,
-)
-    requires { ⌜ (length (now matrix) ≡ length (now weights) * cols) × (length (now targets) ≡ length (now right)) × (bitwidth ≤ 64) ⌝ }
-    requires { ⌜ (cols ≡ length (columns (now degrees) most)) × (length (now exponents) ≡ cols * length (now degrees)) × (length (now grid) ≡ length (now degrees)) ⌝ }
-    requires { ⌜ (length (now degrees) ≤ 20) × (size ≤ 256) × ((j : ℕ) → j < length (now degrees) → at (now degrees) j < size) ⌝ }
-    ensures lists { λ r. ⌜ now (exponents .exit) ≡ joined (columns (now (degrees .entry)) most) ⌝ }
-    ensures fills { λ r. ⌜ system bitwidth cols (now (matrix .exit)) (now (right .exit))
-        ≡ fitSystem bitwidth (now (grid .entry)) (columns (now (degrees .entry)) most) (now (weights .entry)) (now (targets .entry)) ⌝ }
-{
-    let variables = degrees.len();
-    let room = variables * size;
-    let mut current = [0u8; 20];
-    let mut powers = [0u64; 5120];
-    let mut point = [0u64; 20];
-    columns::enumerate_basis(exponents, &mut current[..variables], degrees, most);
-    matrix::fill_matrix(
-        matrix,
-        weights,
-        grid,
-        exponents,
-        cols,
-        size,
-        &mut powers[..room],
-        &mut point[..variables],
-        bitwidth,
-    );
-    matrix::fill_right(right, targets, bitwidth);
-}
-
-// Solves the system of the matrix and the right side, which are used up, into `values`. `out` gets the box of the answer, and the result is the degree used;
-// where the elimination finds no answer `out` gets zeros.
-fn answer_system(
-    matrix: &mut [u64],
-    right: &mut [u64],
-    values: &mut [u64],
-    out: &mut [u64],
-    exponents: &[u8],
-    degrees: &[u8],
-    most: u8,
-    bitwidth: u32,
-) -> Number
-    requires { ⌜ (length (now matrix) ≡ length (now right) * length (now values)) × (length (now matrix) ≤ 65536) × (length (now values) ≤ 256) × (2 ≤ bitwidth) × (bitwidth ≤ 64) ⌝ }
-    requires { ⌜ (length (now out) ≡ cells (now degrees)) × (cells (now degrees) ≤ 65536) × (length (now degrees) ≤ 20) ⌝ }
-    requires { ⌜ (length (now values) ≡ length (columns (now degrees) most)) × (now exponents ≡ joined (columns (now degrees) most)) ⌝ }
-    ensures { λ r. ⌜ Answered bitwidth (length (now (right .entry))) (length (now (values .entry))) (now (degrees .entry)) (columns (now (degrees .entry)) most)
-        (system bitwidth (length (now (values .entry))) (now (matrix .entry)) (now (right .entry))) (now (out .exit)) (said r) ⌝ }
-{
-    match two_adic_solver::solver::solve_2adic(matrix, right, values.len(), bitwidth, values) {
-        Outcome::Refused(refusal) => {
-            tables::clear(out);
-            Number::Refused(refusal)
-        }
-        Outcome::Accepted => Number::Value(answer::fill_answer(
-            out,
-            values,
-            exponents,
-            degrees,
-            most,
-            bitwidth,
-        )),
-    }
 }
 
 // A fit whose tables have their exact lengths, with room for the exponents and for the values of the columns. Matrix and right side end as zeros.
@@ -115,13 +35,13 @@ fn fit_with(
     right: &mut [u64],
     out: &mut [u64],
 ) -> Number
-    requires { ⌜ (length (now weights) ≡ cells (now grid)) × (length (now targets) ≡ cells (now grid)) × (length (now right) ≡ cells (now grid)) × (length (now matrix) ≡ cells (now grid) * length (now values)) × (length (now matrix) ≤ 65536) ⌝ }
-    requires { ⌜ (length (now out) ≡ cells (now degrees)) × (cells (now degrees) ≤ 65536) × (length (now exponents) ≡ length (now values) * length (now degrees)) × (length (now values) ≡ length (columns (now degrees) most)) × (length (now values) ≤ 256) ⌝ }
-    requires { ⌜ (2 ≤ bitwidth) × (bitwidth ≤ 64) × (length (now grid) ≡ length (now degrees)) × (length (now degrees) ≤ 20) × (size ≤ 256) × ((j : ℕ) → j < length (now degrees) → at (now degrees) j < size) ⌝ }
+    requires { ⌜ Shaped bitwidth size (now degrees) (now grid) ⌝ }
+    requires { ⌜ Exact (fitWith bitwidth (now degrees) (now grid) most (now weights) (now targets) (now matrix) (now right) (now out)) (length (now values)) ⌝ }
+    requires { ⌜ length (now exponents) ≡ length (now values) * length (now degrees) ⌝ }
     ensures { λ r. ⌜ Fitted (fitWith bitwidth (now (degrees .entry)) (now (grid .entry)) most (now (weights .entry)) (now (targets .entry))
         (now (matrix .entry)) (now (right .entry)) (now (out .entry))) 0 (now (matrix .exit)) (now (right .exit)) (now (out .exit)) (said r) ⌝ }
 {
-    fill_system(
+    systems::fill_system(
         exponents,
         matrix,
         right,
@@ -134,7 +54,7 @@ fn fit_with(
         size,
         bitwidth,
     );
-    let found = answer_system(
+    let found = systems::answer_system(
         matrix,
         right,
         values,
@@ -163,9 +83,8 @@ fn fit_tables(
     right: &mut [u64],
     out: &mut [u64],
 ) -> Number
-    requires { ⌜ (length (now weights) ≡ cells (now grid)) × (length (now targets) ≡ cells (now grid)) × (length (now right) ≡ cells (now grid)) × (length (now matrix) ≡ cells (now grid) * cols) × (length (now matrix) ≤ 65536) ⌝ }
-    requires { ⌜ (length (now out) ≡ cells (now degrees)) × (cells (now degrees) ≤ 65536) × (cols ≡ length (columns (now degrees) most)) × (cols ≤ 256) ⌝ }
-    requires { ⌜ (2 ≤ bitwidth) × (bitwidth ≤ 64) × (length (now grid) ≡ length (now degrees)) × (length (now degrees) ≤ 20) × (size ≤ 256) × ((j : ℕ) → j < length (now degrees) → at (now degrees) j < size) ⌝ }
+    requires { ⌜ Shaped bitwidth size (now degrees) (now grid) ⌝ }
+    requires { ⌜ Exact (fitWith bitwidth (now degrees) (now grid) most (now weights) (now targets) (now matrix) (now right) (now out)) cols ⌝ }
     ensures { λ r. ⌜ Fitted (fitWith bitwidth (now (degrees .entry)) (now (grid .entry)) most (now (weights .entry)) (now (targets .entry))
         (now (matrix .entry)) (now (right .entry)) (now (out .entry))) 0 (now (matrix .exit)) (now (right .exit)) (now (out .exit)) (said r) ⌝ }
 {
@@ -232,8 +151,8 @@ fn fit_box(
     right: &mut [u64],
     out: &mut [u64],
 ) -> Number
-    requires { ⌜ (rows ≡ cells (now grid)) × (rows ≤ 65536) × (cells (now degrees) ≤ rows) × (length (now grid) ≡ length (now degrees)) × (2 ≤ bitwidth) × (bitwidth ≤ 64) ⌝ }
-    requires { ⌜ (length (now degrees) ≤ 20) × (size ≤ 256) × ((j : ℕ) → j < length (now degrees) → at (now degrees) j < size) ⌝ }
+    requires { ⌜ Shaped bitwidth size (now degrees) (now grid) ⌝ }
+    requires { ⌜ (rows ≡ cells (now grid)) × (rows ≤ 65536) × (cells (now degrees) ≤ rows) ⌝ }
     ensures { λ r. ⌜ Fitted (fitWith bitwidth (now (degrees .entry)) (now (grid .entry)) most (now (weights .entry)) (now (targets .entry))
         (now (matrix .entry)) (now (right .entry)) (now (out .entry)))
         (tableCause (fitWith bitwidth (now (degrees .entry)) (now (grid .entry)) most (now (weights .entry)) (now (targets .entry))
@@ -283,8 +202,8 @@ pub fn recover_weighted_poly(
     right: &mut [u64],
     out: &mut [u64],
 ) -> Number
-    ensures says { λ r. ⌜ said r ≡ fitReply (fitOf total bitwidth (now (support .entry)) «max_degree» «grid_degree» (now (weights .entry)) (now (targets .entry))
-        (now (matrix .entry)) (now (right .entry)) (now (out .entry))) ⌝ }
+    ensures says { λ r. ⌜ said r ≡ fitReply (fitOf total bitwidth (now (support .entry)) «max_degree» «grid_degree» (now (weights .entry))
+        (now (targets .entry)) (now (matrix .entry)) (now (right .entry)) (now (out .entry))) ⌝ }
     ensures leaves { λ r. ⌜ (now (out .exit) ≡ fitOut (fitOf total bitwidth (now (support .entry)) «max_degree» «grid_degree» (now (weights .entry))
         (now (targets .entry)) (now (matrix .entry)) (now (right .entry)) (now (out .entry))))
         × (now (matrix .exit) ≡ fitMatrix (fitOf total bitwidth (now (support .entry)) «max_degree» «grid_degree» (now (weights .entry))

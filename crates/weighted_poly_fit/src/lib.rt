@@ -1,6 +1,7 @@
-// The weighted fit: its columns, its matrix, the box of its answer, the call, and its sizes from the settings alone.
+// The weighted fit: its columns, its matrix, the system solved, the box of its answer, the call, and its sizes from the settings alone.
 mod answer;
 mod columns;
 pub mod fit;
 mod matrix;
 pub mod sizes;
+mod systems;

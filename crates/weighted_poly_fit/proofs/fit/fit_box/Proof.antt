@@ -1,7 +1,6 @@
 -- The columns are counted, the size of the matrix and the lengths are tested, then the fit is made.
 use borrow.Author.Needs.{needs}
 use mathlib.Core.Path.{_≡_, sym, ap, ap₂, _∙_}
-use mathlib.Core.Bool.{Bool}
 use Prim.Native.Nat.{ℕ, _*_, _≤_}
 use native.Mathlib.Nat.{mul-le-mul, le-trans, le-of-eq}
 use native.Mathlib.Omega.{arith}
@@ -12,7 +11,7 @@ use Rattle.meaning.specs.Fit.{Fit, columns}
 use Rattle.answers.specs.declared.Refusal.the-variants.{TooLarge, WrongLength}
 use Rattle.weighted_poly_fit.specs.Fitting.{fitWith, fitLengths}
 use Rattle.weighted_poly_fit.proofs.ColumnCount.{columns-le-cells}
-use Rattle.weighted_poly_fit.proofs.FitCalls.{columns-few, fitted-refused, cause-size, cause-lengths, lengths-eq, exact, fitted-passed}
+use Rattle.weighted_poly_fit.proofs.FitCalls.{fitted-refused, cause-size, cause-lengths, lengths-eq, exact, fitted-passed}
 use Rattle.weighted_poly_fit.proofs.fit.fit_box.Statement.{statement}
 use Rattle.weighted_poly_fit.proofs.fit.fit_box.Tie as tie
 
@@ -26,20 +25,26 @@ asked s =
 entries : (c : tie.After-count-columns) →
     let a = c .before .before .before .before .before .before .before .before .args in
     a .rows * c .count-columns .result ≡ cells (a .grid .now) * length (columns (a .degrees .now) (a .most))
-entries c = ap₂ _*_ (c .before .before .before .before .before .before .before .before .pre .0 .0) (c .count-columns .ensures)
+entries c = ap₂ _*_ (c .before .before .before .before .before .before .before .before .pre .1 .0) (c .count-columns .ensures)
 
-small : (c : tie.Else1) → let a = c .before .before .before .before .before .before .before .before .before .args in cells (a .grid .now) * length (columns (a .degrees .now) (a .most)) ≤ 65536
+small : (c : tie.Else1) →
+    let a = c .before .before .before .before .before .before .before .before .before .args in
+    cells (a .grid .now) * length (columns (a .degrees .now) (a .most)) ≤ 65536
 small c = le-trans (le-of-eq (sym (entries (c .before)))) (c .if1 .left)
 
 -- the lengths are tested
-tested : (c : tie.After-lengths-fit) → c .lengths-fit .result ≡ fitLengths (asked (c .before .before .before .before .before .before .before .before .before .before .before .before .before .before))
+tested : (c : tie.After-lengths-fit) →
+    let s = c .before .before .before .before .before .before .before .before .before .before .before .before .before .before in
+    c .lengths-fit .result ≡ fitLengths (asked s)
 tested c =
     let s = c .before .before .before .before .before .before .before .before .before .before .before .before .before .before in
-    let p = s .pre in
-    let n = c .before .before .before .before .count-cells .ensures in
+    let p = s .pre .1 in
+    let n = c .before .before .before .before .count-cells in
+    let b = c .before .before .before .before .before .before in
+    let k = b .count-columns in
     c .lengths-fit .ensures
-    ∙ lengths-eq (asked s) (s .args .rows) (s .args .rows * c .before .before .before .before .before .before .count-columns .result) (c .before .before .before .before .count-cells .result) (p .0 .0) (entries (c .before .before .before .before .before .before))
-    (omega (arith, n, p .0 .1, p .0 .2))
+    ∙ lengths-eq (asked s) (s .args .rows) (s .args .rows * k .result) (n .result) (p .0) (entries b)
+    (omega (arith, n .ensures, p .1, p .2))
 
 pub fit-box-spec : {M : Type 1} → statement M
 fit-box-spec =
@@ -48,40 +53,38 @@ fit-box-spec =
     (λ c κs. search needs)
     (λ c.
     let s = c .before .before .before .before .before .before .before .before in
-    let p = s .pre in
+    let p = s .pre .1 in
     let n = columns-le-cells (s .args .degrees .now) (s .args .most) in
-    let h : c .count-columns .result ≤ 65536 = omega (arith, c .count-columns .ensures, n, p .0 .1, p .0 .2) in
-    record { fits = omega (arith, mul-le-mul (p .0 .1) h) })
-    (λ c. fitted-refused (asked (c .before .before .before .before .before .before .before .before .before)) _ TooLarge (cause-size (asked (c .before .before .before .before .before .before .before .before .before)) (omega (arith, entries (c .before), c .if1 .taken))))
+    let h : c .count-columns .result ≤ 65536 = omega (arith, c .count-columns .ensures, n, p .1, p .2) in
+    record { fits = omega (arith, mul-le-mul (p .1) h) })
+    (λ c.
+    let f = asked (c .before .before .before .before .before .before .before .before .before) in
+    fitted-refused f _ TooLarge (cause-size f (omega (arith, entries (c .before), c .if1 .taken))))
     (λ c κs. search needs)
     (λ c κs. search needs)
     (λ c. search needs) (λ c. search needs) (λ c. search needs)
     (λ c.
-    fitted-refused (asked (c .before .before .before .before .before .before .before .before .before .before .before .before .before .before .before)) _ WrongLength
-    (cause-lengths (asked (c .before .before .before .before .before .before .before .before .before .before .before .before .before .before .before)) _ (small (c .before .before .before .before .before .before)) (sym (tested (c .before)) ∙ not-true _ (c .if2 .taken))))
+    let s = c .before .before .before .before .before .before .before .before .before .before .before .before .before .before .before in
+    fitted-refused (asked s) _ WrongLength
+    (cause-lengths (asked s) _ (small (c .before .before .before .before .before .before)) (sym (tested (c .before)) ∙ not-true _ (c .if2 .taken))))
     (λ c κs.
-    let s = c .before .before .before .before .before .before .before .before .before .before .before .before .before .before .before .before .before .before in
-    let p = s .pre in
-    let k = c .before .before .before .before .before .before .before .before .before .before .count-columns in
-    let f = exact (asked s) (sym (tested (c .before .before .before .before)) ∙ not-false _ (c .before .before .before .if2 .left)) in
-    let n = k .ensures in (
-      (
-        f .weights-long,
-        f .targets-long,
-        f .right-long,
-        f .matrix-long ∙ ap (cells (s .args .grid .now) *_) (sym n),
-        le-trans (le-of-eq (f .matrix-long)) (small (c .before .before .before .before .before .before .before .before .before)),
-      ),
-      (
-        (
-          f .out-long,
-          le-trans (p .0 .2) (p .0 .1),
-          n,
-          columns-few (s .args .degrees .now) (s .args .most) (s .args .rows) (k .result) n (p .0 .2) (c .before .before .before .before .before .before .before .before .before .if1 .left),
-        ),
-        (p .0 .4, p .0 .5, p .0 .3, p .1 .0, p .1 .1, p .1 .2),
-      ),
+    let s =
+    c .before .before .before .before .before .before .before .before .before .before .before .before .before .before .before .before
+    .before .before in
+    let p = s .pre .1 in
+    let e = c .before .before .before .before .before .before .before .before .before in
+    let k = e .before .count-columns in
+    let rows = sym (p .0) in (
+      s .pre .0,
+      exact (asked s) (k .result) (k .ensures) (le-trans (p .2) (le-of-eq (p .0))) (le-trans (le-of-eq rows) (p .1)) (small e)
+          (sym (tested (c .before .before .before .before)) ∙ not-false _ (c .before .before .before .if2 .left)),
     ))
     (λ c. search needs) (λ c. search needs) (λ c. search needs)
     (λ c.
-    fitted-passed (asked (c .before .before .before .before .before .before .before .before .before .before .before .before .before .before .before .before .before .before .before .before .before .before .before .before .before)) (small (c .before .before .before .before .before .before .before .before .before .before .before .before .before .before .before .before)) (sym (tested (c .before .before .before .before .before .before .before .before .before .before .before)) ∙ not-false _ (c .before .before .before .before .before .before .before .before .before .before .if2 .left)) (c .before .before .before .before .before .before .fit-tables .ensures)))
+    let s =
+    c .before .before .before .before .before .before .before .before .before .before .before .before .before .before .before .before
+    .before .before .before .before .before .before .before .before .before in
+    let e = c .before .before .before .before .before .before .before .before .before .before .before .before .before .before .before .before in
+    let t = c .before .before .before .before .before .before .before .before .before .before in
+    let k = c .before .before .before .before .before .before .fit-tables in
+    fitted-passed (asked s) (small e) (sym (tested (t .before)) ∙ not-false _ (t .if2 .left)) (k .ensures)))

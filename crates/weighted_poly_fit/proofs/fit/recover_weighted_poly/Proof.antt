@@ -1,9 +1,9 @@
 -- The settings of the grid decide first; where they pass there are at most twenty variables, and the degrees are parts of twenty copies.
 use borrow.Author.Needs.{needs}
-use mathlib.Core.Path.{_≡_, sym, ap, _∙_, subst}
+use mathlib.Core.Path.{sym, ap, subst, _∙_}
 use mathlib.Core.Bool.{false}
 use mathlib.Core.List.{List}
-use Prim.Native.Nat.{ℕ, _+_, _≤_, _<_, min}
+use Prim.Native.Nat.{ℕ, _+_, _<_}
 use native.Mathlib.Nat.{le-trans, le-of-eq}
 use native.Mathlib.Omega.{arith}
 use lib.ListN.{length, replicate}
@@ -26,7 +26,8 @@ use Rattle.weighted_poly_fit.proofs.fit.recover_weighted_poly.Tie as ti
 abbrev asked : tie.Start → Fit
 asked s =
     let k = s .args in
-    fitOf (k .total) (k .bitwidth) (k .support .now) (k .max-degree) (k .grid-degree) (k .weights .now) (k .targets .now) (k .matrix .now) (k .right .now) (k .out .now)
+    fitOf (k .total) (k .bitwidth) (k .support .now) (k .max-degree) (k .grid-degree) (k .weights .now) (k .targets .now)
+    (k .matrix .now) (k .right .now) (k .out .now)
 
 -- the settings pass, with as many cells as they say
 ok : (c : tie.After-rows) →
@@ -38,7 +39,9 @@ ok c =
     settled false (k .total) (between 2 64 (k .bitwidth)) (k .support .now) (cube (k .support .now) (k .grid-degree))
     (c .before .before .settings .ensures) (c .rows .given .1)
 
-pass : (c : tie.After-rows) → let k = c .before .before .before .before .before .before .before .before .before .args in Passes (k .total) (between 2 64 (k .bitwidth)) (k .support .now)
+pass : (c : tie.After-rows) →
+    let k = c .before .before .before .before .before .before .before .before .before .args in
+    Passes (k .total) (between 2 64 (k .bitwidth)) (k .support .now)
 pass c =
     let k = c .before .before .before .before .before .before .before .before .before .args in
     passes false (k .total) (between 2 64 (k .bitwidth)) (k .support .now) (cube (k .support .now) (k .grid-degree)) (ok c .passes)
@@ -69,35 +72,44 @@ recover-weighted-poly-spec =
     (λ c. search needs)
     (λ c κs.
     let k = c .before .before .before .before .before .before .before .before .before .before .before .before .before .before .before .before .args in
+    let support = k .support .now in
     let r = ok (c .before .before .before .before .before .before .before) in
     let p = pass (c .before .before .before .before .before .before .before) in
-    let d = c .before .before .before .before .before .lesser-degree .result in
-    let e : d ≡ min (k .max-degree) (k .grid-degree) = c .before .before .before .before .before .lesser-degree .ensures in
-    let n = length (k .support .now) in
-    let g = take-cube (k .support .now) (k .grid-degree) (p .short) in
-    let t = take-cube (k .support .now) d (p .short) in
+    let l = c .before .before .before .before .before .lesser-degree in
+    let d = l .result in
+    let n = length support in
+    let g = take-cube support (k .grid-degree) (p .short) in
+    let t = take-cube support d (p .short) in
     let long = length-take-le n (replicate 20 d) (p .short) in (
+      record {
+        low = width-low (k .bitwidth) (p .width);
+        high = width-high (k .bitwidth) (p .width);
+        same = length-take-le n (replicate 20 (k .grid-degree)) (p .short) ∙ sym long;
+        variables-few = le-trans (le-of-eq long) (p .short);
+        narrow = omega (arith, l .ensures);
+        below = λ j h. subst (λ (ds : List ℕ). at ds j < d + 1) (sym t) (cube-low n d j);
+      },
       (
         r .counted ∙ ap cells (sym g),
-        le-trans (le-of-eq (r .counted)) (settings-cells-le false (k .total) (between 2 64 (k .bitwidth)) (k .support .now) (cube (k .support .now) (k .grid-degree)) (r .passes)),
-        le-trans (le-of-eq (ap cells t ∙ ap (λ (i : ℕ). cells (replicate n i)) e)) (le-trans (cells-cube-le n (k .max-degree) (k .grid-degree)) (le-of-eq (sym (r .counted)))),
-        length-take-le n (replicate 20 (k .grid-degree)) (p .short) ∙ sym long,
-        width-low (k .bitwidth) (p .width),
-        width-high (k .bitwidth) (p .width),
-      ),
-      (
-        le-trans (le-of-eq long) (p .short),
-        search needs,
-        λ j l. subst (λ (ds : List ℕ). at ds j < d + 1) (sym t) (cube-low n d j),
+        le-trans (le-of-eq (r .counted))
+            (settings-cells-le false (k .total) (between 2 64 (k .bitwidth)) support (cube support (k .grid-degree)) (r .passes)),
+        le-trans (le-of-eq (ap cells t ∙ ap (λ (i : ℕ). cells (replicate n i)) (l .ensures)))
+            (le-trans (cells-cube-le n (k .max-degree) (k .grid-degree)) (le-of-eq (sym (r .counted)))),
       ),
     ))
-    (λ c. call-turned (asked (c .before .before .before .before .before .before .before .before .before .before)) (c .before .refusal .given .0 .0) (turned (c .before) .refuses))
+    (λ c.
+    let b = c .before in
+    call-turned (asked (b .before .before .before .before .before .before .before .before .before)) (b .refusal .given .0 .0) (turned b .refuses))
     (λ c. search needs) (λ c. search needs) (λ c. search needs)
     (λ c.
-    let s = c .before .before .before .before .before .before .before .before .before .before .before .before .before .before .before .before .before .before .before .before .before .before .before in
+    let s =
+    c .before .before .before .before .before .before .before .before .before .before .before .before .before .before .before .before
+    .before .before .before .before .before .before .before in
     let k = s .args in
-    let h = pass (c .before .before .before .before .before .before .before .before .before .before .before .before .before .before) .short in
-    call-settled (asked s) (ok (c .before .before .before .before .before .before .before .before .before .before .before .before .before .before) .passes) _ _ _ _
+    let b = c .before .before .before .before .before .before .before .before .before .before .before .before .before .before in
+    let l = c .before .before .before .before .before .before .before .before .before .before .before .before .lesser-degree in
+    let h = pass b .short in
+    call-settled (asked s) (ok b .passes) _ _ _ _
     (fitted-degrees (k .bitwidth) (k .max-degree) (k .weights .now) (k .targets .now) (k .matrix .now) (k .right .now) (k .out .now)
-    (take-cube (k .support .now) (c .before .before .before .before .before .before .before .before .before .before .before .before .lesser-degree .result) h ∙ ap (cube (k .support .now)) (c .before .before .before .before .before .before .before .before .before .before .before .before .lesser-degree .ensures))
-    (take-cube (k .support .now) (k .grid-degree) h) (c .before .before .before .before .before .before .fit-box .ensures))))
+    (take-cube (k .support .now) (l .result) h ∙ ap (cube (k .support .now)) (l .ensures)) (take-cube (k .support .now) (k .grid-degree) h)
+    (c .before .before .before .before .before .before .fit-box .ensures))))

@@ -1,0 +1,48 @@
+use Rattle.bench.proofs.read_input.Statement.{statement}
+use mathlib.Core.Path.{_≡_, refl, sym, _∙_}
+use denote.Ref.{now}
+use borrow.Author.Needs.{needs}
+use native.Mathlib.Omega.{arith}
+use lib.ListN.{length}
+use Rattle.bench.specs.Answers.{Led}
+use Rattle.bench.specs.AnswerLaws.{led-none, led-next}
+use Rattle.bench.proofs.read_input.Tie as tie
+
+abbrev Inv-loop : tie.InvT-loop
+Inv-loop values₀ piece₀ reader₀ turns₀ values piece reader turns =
+    (length values ≡ length values₀) × (65536 ≡ length piece) × Led values₀ reader values
+
+abbrev μ-loop : tie.MeasureT-loop
+μ-loop values₀ piece₀ reader₀ turns₀ values piece reader turns = turns
+
+pub read-input-spec : {M : Type 1} → statement M
+read-input-spec =
+    tie.close
+    (tie.spec
+    Inv-loop
+    μ-loop
+    (λ c κs. search needs)
+    (λ c κs. search needs)
+    (λ c. (refl, c .before .large-buffer .ensures, led-none (now (c .before .before .before .args .values)) (c .new .result) (c .new .ensures)))
+    (λ c. search needs)
+    (λ c. c .before .before .loop .inv .1)
+    (λ c κs. search needs)
+    (λ c. c .before .before .before .before .before .loop .inv .0)
+    (λ c. c .before .before .before .before .before .loop .inv .2)
+    (λ c. c .before .before .before .before .before .before .loop .inv .0)
+    (λ c. c .before .before .before .before .before .before .loop .inv .2)
+    (λ c. c .before .before .before .before .before .before .before .loop .inv .1 ∙ sym (c .before .before .before .before .read .kept .1 .0))
+    (λ c κs. search needs)
+    (λ c. search needs)
+    (λ c. search needs)
+    (λ c κs. search needs)
+    (λ c. omega arith)
+    (λ c. let f = c .before .before in
+    let r = f .before .before .before .before .before .before .before .before in
+    let k = r .before .before .before .loop in (
+      f .feed .kept .1 .1 .0 ∙ k .inv .0,
+      k .inv .1 ∙ sym (r .read .kept .1 .0),
+      led-next _ (k .reader) (k .values) _ (f .feed .result) _ (k .inv .2) (f .feed .ensures),
+    ))
+    (λ c. c .before .loop .inv .0)
+    (λ c. c .before .loop .inv .2))

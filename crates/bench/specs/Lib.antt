@@ -1,0 +1,6 @@
+pub mod Answers
+pub mod AnswerLaws
+pub mod InputLaws
+pub mod RoomLaws
+pub mod Endings
+pub mod EndingLaws

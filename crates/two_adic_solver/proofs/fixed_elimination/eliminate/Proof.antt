@@ -1,0 +1,48 @@
+use Rattle.two_adic_solver.proofs.fixed_elimination.eliminate.Statement.{statement}
+use mathlib.Core.Path.{sym, _∙_}
+use Prim.Native.Nat.{_-_}
+use native.Mathlib.Omega.{arith}
+use Rattle.meaning.specs.Elimination.{joined}
+use Rattle.two_adic_solver.specs.Fixed.{Square}
+use Rattle.two_adic_solver.proofs.ColumnLaws.{Passed, passed-start, passed-step, passed-done}
+use Rattle.two_adic_solver.proofs.FixedLaws.{joined-length}
+use borrow.Author.Needs.{needs}
+use Rattle.two_adic_solver.proofs.fixed_elimination.eliminate.Tie as tie
+
+abbrev Inv-loop : tie.InvT-loop
+Inv-loop matrix₀ right₀ used₀ pivots₀ bitwidth column₀ matrix right used pivots column =
+    Square matrix × Passed bitwidth 4 (joined matrix₀) right₀ used₀ pivots₀ (joined matrix) right used pivots column
+
+abbrev μ-loop : tie.MeasureT-loop
+μ-loop matrix₀ right₀ used₀ pivots₀ bitwidth column₀ matrix right used pivots column = 4 - column
+
+pub eliminate-spec : {M : Type 1} → statement M
+eliminate-spec =
+    tie.close
+    (tie.spec
+    Inv-loop
+    μ-loop
+    (λ c. (c .before .before .before .pre .0, passed-start _ _ _ _ _ _))
+    (λ c κs.
+    let p = c .before .before .before .before .before .before .before .before .before .pre in
+    let i = c .before .before .before .before .before .loop .inv in
+    ((i .0, i .1 .same-right ∙ p .1, i .1 .same-used ∙ p .2, i .1 .same-pivots ∙ p .3), (c .before .before .before .before .loop-test .taken, p .4)))
+    (λ c. search needs) (λ c. search needs)
+    (λ c.
+    let b = c .before .before .before .before .before .before .before .before .before .before .before .before in
+    let i = b .loop .inv in
+    let k = c .before .before .before .before .before .before .eliminate-column in (
+      k .ensures .0,
+      passed-step _ _ _ _ _ _ (joined (b .loop .matrix)) (b .loop .right) (b .loop .used) (b .loop .pivots)
+          (joined (k .last .0)) (k .last .1 .0) (k .last .1 .1 .0) (k .last .1 .1 .1 .0) (b .loop .column) (i .1)
+          (c .before .before .before .before .before .before .before .before .before .before .before .loop-test .taken)
+          (joined-length (k .ensures .0) ∙ sym (joined-length (i .0))) (omega arith) (omega arith) (omega arith) (k .ensures .1),
+    ))
+    (λ c. c .before .loop .inv .1 .same-right) (λ c. c .before .loop .inv .1 .same-used) (λ c. c .before .loop .inv .1 .same-pivots)
+    (λ c.
+    let b = c .before in
+    let i = b .loop .inv in (
+      i .0,
+      passed-done _ _ _ _ _ _ (joined (b .loop .matrix)) (b .loop .right) (b .loop .used) (b .loop .pivots) (b .loop .column) (i .1)
+          (c .loop-test .left),
+    )))
