@@ -85,9 +85,9 @@ extern "C" {
 #define COBRA_ENTRY_BYTES 8u     /* bytes to an entry */
 
 /* bytes of stack that are enough for a call */
-#define COBRA_RECOVER_STACK 81920u
-#define COBRA_VALUE_STACK 49152u
-#define COBRA_FIT_STACK 819200u
+#define COBRA_RECOVER_STACK 98304u
+#define COBRA_VALUE_STACK 65536u
+#define COBRA_FIT_STACK 1048576u
 
 /*
  * Recovers a polynomial from its values on a grid.

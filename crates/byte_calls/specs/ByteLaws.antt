@@ -66,43 +66,40 @@ number-of-bytes (suc n) x =
 pub rest-next : (x j : ℕ) → x / 256 ^ j / 256 ≡ x / 256 ^ (j + 1)
 rest-next x j = div-div-eq-div-mul x (256 ^ j) 256 ∙ ap (x /_) (sym (pow-suc 256 j) ∙ ap (256 ^_) (sym (add-one j)))
 
--- ---- the loop over the bytes of one entry
+-- ---- the loop over the bytes of one entry, from the last one down
 
 module _ (bytes : List ℕ) (from : ℕ) where
   -- no byte yet
-  pub entry-start : numberAt bytes (from + 8) 0 ≡ 0
+  pub entry-start : numberAt bytes (from + (8 - 0)) 0 ≡ 0
   unfolding numberAt sum
   entry-start = refl
 
   -- the byte before the ones that are done
-  pub entry-step : (j : ℕ) → 0 < j → j ≤ 8
-      → numberAt bytes (from + j) (8 - j) * 256 + at bytes (from + (j - 1)) ≡ numberAt bytes (from + (j - 1)) (8 - (j - 1))
+  pub entry-step : (j : ℕ) → j < 8
+      → numberAt bytes (from + (8 - j)) j * 256 + at bytes (from + 7 - j) ≡ numberAt bytes (from + (8 - (j + 1))) (j + 1)
   unfolding numberAt
-  entry-step j p q =
+  entry-step j p =
       sym
-      (ap (λ (n : ℕ). number n (λ i. at bytes (from + (j - 1) + i))) (left j p q)
-      ∙ number-step (8 - j) (λ i. at bytes (from + (j - 1) + i))
-      ∙ ap₂ (λ (a b : ℕ). a * 256 + b) (sum-eq (8 - j) (λ i h. ap (λ (n : ℕ). 256 ^ i * at bytes n) (place j i p))) (ap (at bytes) (there (j - 1))))
+      (ap (λ (n : ℕ). number n (λ i. at bytes (from + (8 - (j + 1)) + i))) (add-one j)
+      ∙ number-step j (λ i. at bytes (from + (8 - (j + 1)) + i))
+      ∙ ap₂ (λ (a b : ℕ). a * 256 + b) (sum-eq j (λ i h. ap (λ (n : ℕ). 256 ^ i * at bytes n) (place j i p))) (ap (at bytes) (there j p)))
     where
-      left : (j : ℕ) → 0 < j → j ≤ 8 → 8 - (j - 1) ≡ suc (8 - j)
-      left j p q = omega arith
-
-      place : (j i : ℕ) → 0 < j → from + (j - 1) + suc i ≡ from + j + i
+      place : (j i : ℕ) → j < 8 → from + (8 - (j + 1)) + suc i ≡ from + (8 - j) + i
       place j i p = omega arith
 
-      there : (k : ℕ) → from + k + 0 ≡ from + k
-      there k = omega arith
+      there : (j : ℕ) → j < 8 → from + (8 - (j + 1)) + 0 ≡ from + 7 - j
+      there j p = omega arith
 
   -- all eight of them
-  pub entry-done : (j : ℕ) → j ≤ 0 → numberAt bytes (from + j) (8 - j) ≡ numberAt bytes from 8
-  entry-done j h = ap₂ (numberAt bytes) (omega arith) (omega arith)
+  pub entry-done : (j : ℕ) → 8 ≤ j → j ≤ 8 → numberAt bytes (from + (8 - j)) j ≡ numberAt bytes from 8
+  entry-done j h k = ap₂ (numberAt bytes) (omega arith) (omega arith)
 
   -- a number that leaves room for one byte more
-  pub entry-room : ((i : ℕ) → at bytes i < 256) → (j : ℕ) → 0 < j → numberAt bytes (from + j) (8 - j) < 2 ^ 56
+  pub entry-room : ((i : ℕ) → at bytes i < 256) → (j : ℕ) → j < 8 → numberAt bytes (from + (8 - j)) j < 2 ^ 56
   unfolding numberAt
   entry-room h j p =
-      let most : 256 ^ (8 - j) ≤ 256 ^ 7 = pow-le-pow-right (omega arith) {i = 8 - j} {j = 7} (omega arith) in
-      let low = number-lt (8 - j) (λ i. at bytes (from + j + i)) (λ i. h (from + j + i)) in
+      let most : 256 ^ j ≤ 256 ^ 7 = pow-le-pow-right (omega arith) {i = j} {j = 7} (omega arith) in
+      let low = number-lt j (λ i. at bytes (from + (8 - j) + i)) (λ i. h (from + (8 - j) + i)) in
       omega (arith, most, low)
 
 -- ---- whole tables

@@ -7,7 +7,7 @@ ghost use Rattle.byte_calls.specs.Bytes.{numberAt, byteOf, decoded, enco
 
 // A byte as a number of 64 bits.
 fn wide(byte: u8) -> u64
-    ensures { λ r. ⌜ r ≡ byte ⌝ }
+    ensures { λ r. ⌜ (r ≡ byte) × (r ≤ 255) ⌝ }
 {
     byte as u64
 }
@@ -17,11 +17,12 @@ pub(crate) fn entry_at(bytes: &[u8], from: usize) -> u64
     requires { ⌜ from + 8 ≤ length (now bytes) ⌝ }
     ensures { λ r. ⌜ r ≡ numberAt (now (bytes .entry)) from 8 ⌝ }
 {
+    let last = from + 7;
     let mut entry = 0;
-    let mut j = 8;
-    while 0 < j {
-        j -= 1;
-        entry = entry * 256 + wide(bytes[from + j]);
+    let mut j = 0;
+    while j < 8 {
+        entry = entry * 256 + wide(bytes[last - j]);
+        j += 1;
     }
     entry
 }

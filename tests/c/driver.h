@@ -1,0 +1,77 @@
+/* What the parts of the driver share. */
+#ifndef DRIVER_H
+#define DRIVER_H
+
+#include "../../include/cobra.h"
+
+/* the library's calls on tables of u64, with which the calls on bytes are compared */
+uint32_t cobra_recover_multivar_poly(const uint64_t *values, size_t values_len,
+                                     const uint64_t *support, size_t support_len, uint32_t total,
+                                     uint32_t width, uint8_t degree, uint64_t *out, size_t out_len);
+uint32_t cobra_box_value(const uint64_t *coeffs, size_t coeffs_len, const uint64_t *support,
+                         size_t support_len, uint32_t total, uint32_t width, uint8_t degree,
+                         const uint64_t *point, size_t point_len, uint64_t *value);
+uint32_t cobra_recover_weighted_poly(const uint64_t *weights, size_t weights_len,
+                                     const uint64_t *targets, size_t targets_len,
+                                     const uint64_t *support, size_t support_len, uint32_t total,
+                                     uint32_t width, uint8_t max_degree, uint8_t grid_degree,
+                                     uint64_t *matrix, size_t matrix_len, uint64_t *right,
+                                     size_t right_len, uint64_t *out, size_t out_len,
+                                     uint64_t *value);
+
+enum { RECOVER, VALUE, FIT, CALLS };
+
+/* a table of bytes as it is lent; `at` is NULL where that is what is lent */
+struct table {
+    uint8_t *at;
+    size_t bytes;
+};
+
+/* the arguments of a call. RECOVER: first has the values. VALUE: first has the coefficients, second
+ * the point. FIT: first has the weights, second the targets; degree is max_degree. */
+struct job {
+    int call;
+    struct table first, second, support, out;
+    uint64_t count;
+    uint32_t total, width;
+    uint8_t degree, grid;
+};
+
+/* what a call says and leaves: out has as many bytes as the job's */
+struct answer {
+    uint32_t number;
+    uint64_t value;
+    uint8_t *out;
+};
+
+/* job.c: jobs own their tables */
+void job_free(struct job *job);
+void table_set(struct table *table, size_t bytes);             /* new length; what is there stays */
+void entry_set(struct table *table, size_t i, uint64_t entry); /* eight bytes, least first */
+uint64_t entry_get(const struct table *table, size_t i);
+struct answer answer_of(const struct job *job); /* lends copies of the tables and calls */
+
+/* expected.c: the paper's order of refusals, and the u64 calls for the rest */
+struct answer expected_of(const struct job *job);
+size_t fit_columns(size_t variables, unsigned degree, unsigned most);
+
+/* check.c: every comparison goes through here; one can be made to see a flipped bit */
+void check(const char *what, const struct job *job, const void *expected, const void *got,
+           size_t bytes);
+void check_job(const struct job *job);                  /* the answer is the expected one */
+void check_number(const struct job *job, uint32_t number); /* and has this number */
+void check_at_least(const char *what, unsigned long least, unsigned long got);
+
+/* random.c */
+uint64_t random_next(uint64_t *state);
+uint64_t random_below(uint64_t *state, uint64_t bound);
+struct job random_job(int call, uint64_t *state);
+
+/* the parts */
+void part_refusals(void);
+void part_lengths(void);
+void part_random(unsigned long cases);
+void part_threads(unsigned long cases);
+void part_stack(void);
+
+#endif
