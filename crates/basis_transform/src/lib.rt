@@ -24,8 +24,10 @@ fn transform_basis(
     max_degree: u8,
     out: &mut [u64],
 ) -> Outcome
-    ensures says { λ r. ⌜ saidNumber r ≡ inOutNumber false total bitwidth (now (support .entry)) (cube (now (support .entry)) «max_degree») (now (coeffs .entry)) (now (out .entry)) ⌝ }
-    ensures leaves { λ r. ⌜ now (out .exit) ≡ convertLeft total bitwidth (now (support .entry)) (cube (now (support .entry)) «max_degree») (now (coeffs .entry)) (now (out .entry))
+    ensures says { λ r. ⌜ saidNumber r ≡ inOutNumber false total bitwidth (now (support .entry)) (cube (now (support .entry)) «max_degree»)
+        (now (coeffs .entry)) (now (out .entry)) ⌝ }
+    ensures leaves { λ r. ⌜ now (out .exit) ≡ convertLeft total bitwidth (now (support .entry)) (cube (now (support .entry)) «max_degree»)
+        (now (coeffs .entry)) (now (out .entry))
         (boxOf direction (2 ^ bitwidth) (cube (now (support .entry)) «max_degree») (now (coeffs .entry))) ⌝ }
 {
     match poly::check_tables(false, support, total, bitwidth, max_degree, coeffs, out) {
@@ -49,8 +51,10 @@ pub fn to_factorial_basis(
     max_degree: u8,
     out: &mut [u64],
 ) -> Outcome
-    ensures says { λ r. ⌜ saidNumber r ≡ inOutNumber false total bitwidth (now (support .entry)) (cube (now (support .entry)) «max_degree») (now (coeffs .entry)) (now (out .entry)) ⌝ }
-    ensures leaves { λ r. ⌜ now (out .exit) ≡ convertLeft total bitwidth (now (support .entry)) (cube (now (support .entry)) «max_degree») (now (coeffs .entry)) (now (out .entry))
+    ensures says { λ r. ⌜ saidNumber r ≡ inOutNumber false total bitwidth (now (support .entry)) (cube (now (support .entry)) «max_degree»)
+        (now (coeffs .entry)) (now (out .entry)) ⌝ }
+    ensures leaves { λ r. ⌜ now (out .exit) ≡ convertLeft total bitwidth (now (support .entry)) (cube (now (support .entry)) «max_degree»)
+        (now (coeffs .entry)) (now (out .entry))
         (fallingBox (2 ^ bitwidth) (cube (now (support .entry)) «max_degree») (now (coeffs .entry))) ⌝ }
 {
     transform_basis(
@@ -73,8 +77,10 @@ pub fn to_monomial_basis(
     max_degree: u8,
     out: &mut [u64],
 ) -> Outcome
-    ensures says { λ r. ⌜ saidNumber r ≡ inOutNumber false total bitwidth (now (support .entry)) (cube (now (support .entry)) «max_degree») (now (coeffs .entry)) (now (out .entry)) ⌝ }
-    ensures leaves { λ r. ⌜ now (out .exit) ≡ convertLeft total bitwidth (now (support .entry)) (cube (now (support .entry)) «max_degree») (now (coeffs .entry)) (now (out .entry))
+    ensures says { λ r. ⌜ saidNumber r ≡ inOutNumber false total bitwidth (now (support .entry)) (cube (now (support .entry)) «max_degree»)
+        (now (coeffs .entry)) (now (out .entry)) ⌝ }
+    ensures leaves { λ r. ⌜ now (out .exit) ≡ convertLeft total bitwidth (now (support .entry)) (cube (now (support .entry)) «max_degree»)
+        (now (coeffs .entry)) (now (out .entry))
         (powerBox (2 ^ bitwidth) (cube (now (support .entry)) «max_degree») (now (coeffs .entry))) ⌝ }
 {
     transform_basis(

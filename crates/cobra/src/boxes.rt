@@ -40,7 +40,8 @@ pub extern "C" fn cobra_box_same(
     bdegree: u8,
     value: &mut u64,
 ) -> u32
-    ensures { λ r. ⌜ told r (now (value .exit)) ≡ sameReply (cubeForm atotal awidth (now (asupport .entry)) adegree (now (a .entry))) (cubeForm btotal bwidth (now (bsupport .entry)) bdegree (now (b .entry))) ⌝ }
+    ensures { λ r. ⌜ told r (now (value .exit)) ≡ sameReply (cubeForm atotal awidth (now (asupport .entry)) adegree (now (a .entry)))
+        (cubeForm btotal bwidth (now (bsupport .entry)) bdegree (now (b .entry))) ⌝ }
 {
     answers::deliver_truth(
         poly::same(
@@ -70,7 +71,8 @@ pub extern "C" fn cobra_box_value(
     point: &[u64],
     value: &mut u64,
 ) -> u32
-    ensures { λ r. ⌜ told r (now (value .exit)) ≡ valueReply total width (now (support .entry)) (cube (now (support .entry)) degree) (now (coeffs .entry)) (now (point .entry)) ⌝ }
+    ensures { λ r. ⌜ told r (now (value .exit)) ≡ valueReply total width (now (support .entry)) (cube (now (support .entry)) degree)
+        (now (coeffs .entry)) (now (point .entry)) ⌝ }
 {
     answers::deliver(
         poly::value(coeffs, support, total, width, degree, point),
@@ -89,8 +91,10 @@ pub extern "C" fn cobra_box_sum(
     degree: u8,
     out: &mut [u64],
 ) -> u32
-    ensures says { λ r. ⌜ r ≡ sumNumber total width (now (support .entry)) (cube (now (support .entry)) degree) (now (a .entry)) (now (b .entry)) (now (out .entry)) ⌝ }
-    ensures leaves { λ r. ⌜ now (out .exit) ≡ sumLeft total width (now (support .entry)) (cube (now (support .entry)) degree) (now (a .entry)) (now (b .entry)) (now (out .entry)) ⌝ }
+    ensures says { λ r. ⌜ r ≡ sumNumber total width (now (support .entry)) (cube (now (support .entry)) degree) (now (a .entry)) (now (b .entry))
+        (now (out .entry)) ⌝ }
+    ensures leaves { λ r. ⌜ now (out .exit) ≡ sumLeft total width (now (support .entry)) (cube (now (support .entry)) degree) (now (a .entry))
+        (now (b .entry)) (now (out .entry)) ⌝ }
 {
     answers::outcome_code(poly::sum(a, b, support, total, width, degree, out))
 }
@@ -105,8 +109,10 @@ pub extern "C" fn cobra_to_factorial_basis(
     degree: u8,
     out: &mut [u64],
 ) -> u32
-    ensures says { λ r. ⌜ r ≡ inOutNumber false total width (now (support .entry)) (cube (now (support .entry)) degree) (now (coeffs .entry)) (now (out .entry)) ⌝ }
-    ensures leaves { λ r. ⌜ now (out .exit) ≡ convertLeft total width (now (support .entry)) (cube (now (support .entry)) degree) (now (coeffs .entry)) (now (out .entry))
+    ensures says { λ r. ⌜ r ≡ inOutNumber false total width (now (support .entry)) (cube (now (support .entry)) degree) (now (coeffs .entry))
+        (now (out .entry)) ⌝ }
+    ensures leaves { λ r. ⌜ now (out .exit) ≡ convertLeft total width (now (support .entry)) (cube (now (support .entry)) degree)
+        (now (coeffs .entry)) (now (out .entry))
         (fallingBox (2 ^ width) (cube (now (support .entry)) degree) (now (coeffs .entry))) ⌝ }
 {
     answers::outcome_code(basis_transform::to_factorial_basis(
@@ -129,8 +135,10 @@ pub extern "C" fn cobra_to_monomial_basis(
     degree: u8,
     out: &mut [u64],
 ) -> u32
-    ensures says { λ r. ⌜ r ≡ inOutNumber false total width (now (support .entry)) (cube (now (support .entry)) degree) (now (coeffs .entry)) (now (out .entry)) ⌝ }
-    ensures leaves { λ r. ⌜ now (out .exit) ≡ convertLeft total width (now (support .entry)) (cube (now (support .entry)) degree) (now (coeffs .entry)) (now (out .entry))
+    ensures says { λ r. ⌜ r ≡ inOutNumber false total width (now (support .entry)) (cube (now (support .entry)) degree) (now (coeffs .entry))
+        (now (out .entry)) ⌝ }
+    ensures leaves { λ r. ⌜ now (out .exit) ≡ convertLeft total width (now (support .entry)) (cube (now (support .entry)) degree)
+        (now (coeffs .entry)) (now (out .entry))
         (powerBox (2 ^ width) (cube (now (support .entry)) degree) (now (coeffs .entry))) ⌝ }
 {
     answers::outcome_code(basis_transform::to_monomial_basis(
@@ -153,8 +161,10 @@ pub extern "C" fn cobra_normalize_polynomial(
     degree: u8,
     out: &mut [u64],
 ) -> u32
-    ensures says { λ r. ⌜ r ≡ inOutNumber false total width (now (support .entry)) (cube (now (support .entry)) degree) (now (coeffs .entry)) (now (out .entry)) ⌝ }
-    ensures leaves { λ r. ⌜ now (out .exit) ≡ convertLeft total width (now (support .entry)) (cube (now (support .entry)) degree) (now (coeffs .entry)) (now (out .entry))
+    ensures says { λ r. ⌜ r ≡ inOutNumber false total width (now (support .entry)) (cube (now (support .entry)) degree) (now (coeffs .entry))
+        (now (out .entry)) ⌝ }
+    ensures leaves { λ r. ⌜ now (out .exit) ≡ convertLeft total width (now (support .entry)) (cube (now (support .entry)) degree)
+        (now (coeffs .entry)) (now (out .entry))
         (normalBox width (cube (now (support .entry)) degree) (now (coeffs .entry))) ⌝ }
 {
     answers::outcome_code(poly_normalizer::normalize_polynomial(
@@ -177,8 +187,10 @@ pub extern "C" fn cobra_recover_multivar_poly(
     degree: u8,
     out: &mut [u64],
 ) -> u32
-    ensures says { λ r. ⌜ r ≡ recoveryNumber total width (now (support .entry)) (cube (now (support .entry)) degree) (now (values .entry)) (now (out .entry)) ⌝ }
-    ensures leaves { λ r. ⌜ now (out .exit) ≡ recoveryLeft total width (now (support .entry)) (cube (now (support .entry)) degree) (now (values .entry)) (now (out .entry)) ⌝ }
+    ensures says { λ r. ⌜ r ≡ recoveryNumber total width (now (support .entry)) (cube (now (support .entry)) degree) (now (values .entry))
+        (now (out .entry)) ⌝ }
+    ensures leaves { λ r. ⌜ now (out .exit) ≡ recoveryLeft total width (now (support .entry)) (cube (now (support .entry)) degree)
+        (now (values .entry)) (now (out .entry)) ⌝ }
 {
     answers::outcome_code(multivar_poly_recovery::recover_multivar_poly(
         values,

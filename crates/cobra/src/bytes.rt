@@ -17,8 +17,10 @@ pub extern "C" fn cobra_recover(
     degree: u8,
     out: &mut [u8],
 ) -> u32
-    ensures says { λ r. ⌜ r ≡ recoverNumber count total width (now (support .entry)) (cube (decoded (now (support .entry))) degree) (now (values .entry)) (now (out .entry)) ⌝ }
-    ensures leaves { λ r. ⌜ now (out .exit) ≡ recoverLeft count total width (now (support .entry)) (cube (decoded (now (support .entry))) degree) (now (values .entry)) (now (out .entry)) ⌝ }
+    ensures says { λ r. ⌜ r ≡ recoverNumber count total width (now (support .entry)) (cube (decoded (now (support .entry))) degree)
+        (now (values .entry)) (now (out .entry)) ⌝ }
+    ensures leaves { λ r. ⌜ now (out .exit) ≡ recoverLeft count total width (now (support .entry)) (cube (decoded (now (support .entry))) degree)
+        (now (values .entry)) (now (out .entry)) ⌝ }
 {
     answers::outcome_code(byte_calls::recover(values, support, count, total, width, degree, out))
 }
@@ -35,7 +37,8 @@ pub extern "C" fn cobra_value(
     point: &[u8],
     value: &mut u64,
 ) -> u32
-    ensures { λ r. ⌜ told r (now (value .exit)) ≡ bytesValueReply count total width (now (support .entry)) (cube (decoded (now (support .entry))) degree) (now (coeffs .entry)) (now (point .entry)) ⌝ }
+    ensures { λ r. ⌜ told r (now (value .exit)) ≡ bytesValueReply count total width (now (support .entry))
+        (cube (decoded (now (support .entry))) degree) (now (coeffs .entry)) (now (point .entry)) ⌝ }
 {
     answers::deliver(
         byte_calls::value(coeffs, support, count, total, width, degree, point),
@@ -57,7 +60,8 @@ pub extern "C" fn cobra_fit(
     out: &mut [u8],
     degree_used: &mut u64,
 ) -> u32
-    ensures says { λ r. ⌜ told r (now («degree_used» .exit)) ≡ fitBytesReply count (now (support .entry)) (now (weights .entry)) (now (targets .entry)) (now (out .entry))
+    ensures says { λ r. ⌜ told r (now («degree_used» .exit)) ≡ fitBytesReply count (now (support .entry)) (now (weights .entry))
+        (now (targets .entry)) (now (out .entry))
         (fitHeld total width (now (support .entry)) «max_degree» «grid_degree» (now (weights .entry)) (now (targets .entry))) ⌝ }
     ensures leaves { λ r. ⌜ now (out .exit) ≡ fitBytesLeft count (now (support .entry)) (now (weights .entry)) (now (targets .entry)) (now (out .entry))
         (fitHeld total width (now (support .entry)) «max_degree» «grid_degree» (now (weights .entry)) (now (targets .entry))) ⌝ }

@@ -10,16 +10,6 @@ ghost use Rattle.meaning.specs.Boxes.{cells, digits};
 ghost use Rattle.meaning.specs.Values.{value, bound, boxReduced, boxTotal};
 ghost use Rattle.meaning.specs.Recovery.{every};
 
-// The falling factorial of x with one factor more, modulo 2^64: after the factors x, x - 1, .. there are e of, comes x - e, or 0 from e = x on.
-fn next_falling(falling: u64, x: u64, e: u64) -> u64
-    ensures { λ r. ⌜ r ≡ (falling * (x - e)) % 2 ^ 64 ⌝ }
-{
-    if x <= e {
-        return 0;
-    }
-    arith::wrapping_mul(falling, x - e)
-}
-
 // The value modulo 2^64 of a coefficient box at a point, of which as many coordinates count as there are degrees.
 pub(crate) fn box_value(coeffs: &[u64], degrees: &[u8], point: &[u64]) -> u64
     requires { ⌜ (length (now coeffs) ≡ cells (now degrees)) × (length (now degrees) ≤ length (now point)) ⌝ }
@@ -39,7 +29,7 @@ pub(crate) fn box_value(coeffs: &[u64], degrees: &[u8], point: &[u64]) -> u64
         let end = from + size;
         let inner = box_value(&coeffs[from..end], &degrees[..last], point);
         sum = std::num::wrapping_add_u64(sum, arith::wrapping_mul(falling, inner));
-        falling = next_falling(falling, x, e);
+        falling = math_utils::next_falling(falling, x, e);
         e += 1;
         from = end;
     }

@@ -94,7 +94,8 @@ module _ (w rows cols : ℕ) (mat rhs : List ℕ) (used : List Bool) (pivots : L
     concluded-pivots e =
         record {
           success =
-              sym (ap (λ (a : Bool). (a && every rows (λ i. s .used i || eqb (s .entry i cols) 0)) && every cols (λ c. dividesRest w cols s (substituted w cols s) c))
+              sym (ap (λ (a : Bool). (a && every rows (λ i. s .used i || eqb (s .entry i cols) 0)) && every cols
+              (λ c. dividesRest w cols s (substituted w cols s) c))
               (sym have ∙ e));
           values = λ f. absurd (subst (λ (b : Bool). T b) (sym f) tt);
         }
@@ -200,7 +201,8 @@ module _ (w cols : ℕ) (mat rhs x : List ℕ) where
   cause-eq = refl
 
   refused : (n : ℕ) → solverCause w cols mat rhs x ≡ suc n
-      → (suc n ≡ solverNumber w cols mat rhs x) × (mat ≡ solverMatrix w cols mat rhs x) × (rhs ≡ solverRight w cols mat rhs x) × (x ≡ solverAnswer w cols mat rhs x)
+      → (suc n ≡ solverNumber w cols mat rhs x) × (mat ≡ solverMatrix w cols mat rhs x) × (rhs ≡ solverRight w cols mat rhs x) ×
+      (x ≡ solverAnswer w cols mat rhs x)
   unfolding solverNumber solverMatrix solverRight solverAnswer
   refused n e = (
     sym (ap (λ (k : ℕ). first k (cond (solverSucceeds w cols mat rhs) 0 10)) e),
@@ -226,7 +228,8 @@ module _ (w cols : ℕ) (mat rhs x : List ℕ) where
   pub accepted-call : between 2 64 w ≡ true → (ltb 65536 (length mat) || ltb 65536 cols) ≡ false
       → (ltb 0 cols && eqb (solverRows cols mat * cols) (length mat) && eqb (length rhs) (solverRows cols mat) && eqb (length x) cols) ≡ true
       → length rhs ≡ solverRows cols mat → (n : ℕ) (mat′ rhs′ x′ : List ℕ) → length mat′ ≡ length mat → Finished w cols mat rhs mat′ rhs′ x′ n
-      → (n ≡ solverNumber w cols mat rhs x) × (mat′ ≡ solverMatrix w cols mat rhs x) × (rhs′ ≡ solverRight w cols mat rhs x) × (x′ ≡ solverAnswer w cols mat rhs x)
+      → (n ≡ solverNumber w cols mat rhs x) × (mat′ ≡ solverMatrix w cols mat rhs x) × (rhs′ ≡ solverRight w cols mat rhs x) ×
+      (x′ ≡ solverAnswer w cols mat rhs x)
   unfolding solverNumber solverMatrix solverRight solverAnswer solverSucceeds solverState
   accepted-call e f g q n mat′ rhs′ x′ lm k =
       let none : solverCause w cols mat rhs x ≡ 0 = cause-eq ∙ ap₂ (λ (b d : Bool). cause b d fits) e f ∙ ap (cause true false) g in
@@ -242,7 +245,8 @@ module _ (w cols : ℕ) (mat rhs x : List ℕ) where
             ∙ sym (ap (λ (k : ℕ). left k (tabulate (length rhs) (λ i. solverState w cols mat rhs .entry i cols)) rhs) none),
         k .answer-eq
             ∙ ap (λ (r : ℕ). tabulate cols (λ c. cond (succeeds w r cols (end r)) (substituted w cols (end r) c) 0)) q
-            ∙ sym (ap (λ (k : ℕ). left k (tabulate cols (λ c. cond (solverSucceeds w cols mat rhs) (substituted w cols (solverState w cols mat rhs) c) 0)) x) none),
+            ∙ sym (ap (λ (k : ℕ). left k (tabulate cols (λ c. cond (solverSucceeds w cols mat rhs)
+            (substituted w cols (solverState w cols mat rhs) c) 0)) x) none),
       )
 
 -- ---- the tests of a call, one after the other
@@ -256,12 +260,14 @@ and-false-right false b e = refl
 
 module _ (w cols : ℕ) (mat rhs x : List ℕ) (ok : between 2 64 w ≡ true) (small : (ltb 65536 (length mat) || ltb 65536 cols) ≡ false) where
   abbrev Ninth : Type 0
-  Ninth = (9 ≡ solverNumber w cols mat rhs x) × (mat ≡ solverMatrix w cols mat rhs x) × (rhs ≡ solverRight w cols mat rhs x) × (x ≡ solverAnswer w cols mat rhs x)
+  Ninth = (9 ≡ solverNumber w cols mat rhs x) × (mat ≡ solverMatrix w cols mat rhs x) × (rhs ≡ solverRight w cols mat rhs x) ×
+      (x ≡ solverAnswer w cols mat rhs x)
 
   pub no-columns : ltb 0 cols ≡ false → Ninth
   no-columns e =
       refused-length w cols mat rhs x ok small
-      (and-false-left _ (eqb (length x) cols) (and-false-left _ (eqb (length rhs) (solverRows cols mat)) (and-false-left _ (eqb (solverRows cols mat * cols) (length mat)) e)))
+      (and-false-left _ (eqb (length x) cols) (and-false-left _ (eqb (length rhs) (solverRows cols mat))
+      (and-false-left _ (eqb (solverRows cols mat * cols) (length mat)) e)))
 
   pub ragged : eqb (length mat / cols * cols) (length mat) ≡ false → Ninth
   unfolding solverRows
@@ -281,7 +287,8 @@ module _ (w cols : ℕ) (mat rhs x : List ℕ) (ok : between 2 64 w ≡ true) (s
 
   pub fitting-call : ltb 0 cols ≡ true → eqb (length mat / cols * cols) (length mat) ≡ true → length rhs ≡ length mat / cols → length x ≡ cols
       → (n : ℕ) (mat′ rhs′ x′ : List ℕ) → length mat′ ≡ length mat → Finished w cols mat rhs mat′ rhs′ x′ n
-      → (n ≡ solverNumber w cols mat rhs x) × (mat′ ≡ solverMatrix w cols mat rhs x) × (rhs′ ≡ solverRight w cols mat rhs x) × (x′ ≡ solverAnswer w cols mat rhs x)
+      → (n ≡ solverNumber w cols mat rhs x) × (mat′ ≡ solverMatrix w cols mat rhs x) × (rhs′ ≡ solverRight w cols mat rhs x) ×
+      (x′ ≡ solverAnswer w cols mat rhs x)
   unfolding solverRows
   fitting-call a b d e =
       accepted-call w cols mat rhs x ok small

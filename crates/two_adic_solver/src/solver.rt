@@ -45,7 +45,8 @@ fn conclude(
     bitwidth: u32,
 ) -> bool
     requires { ⌜ (length (now matrix) ≡ length (now right) * columns) × (length (now matrix) ≤ 65536) × (length (now answer) ≡ columns) ⌝ }
-    requires { ⌜ (length (now right) ≤ length (now used)) × (columns ≤ length (now pivots)) × (bitwidth ≤ 64) × Ended bitwidth (length (now right)) columns (now matrix) (now right) (now used) (now pivots) ⌝ }
+    requires { ⌜ (length (now right) ≤ length (now used)) × (columns ≤ length (now pivots)) × (bitwidth ≤ 64) × Ended bitwidth
+        (length (now right)) columns (now matrix) (now right) (now used) (now pivots) ⌝ }
     ensures { λ r. ⌜ ((s : State)
         → Shown bitwidth (length (now (right .entry))) columns s columns (now (matrix .entry)) (now (right .entry)) (now (used .entry)) (now (pivots .entry))
         → Concluded bitwidth (length (now (right .entry))) columns s (now (answer .exit)) r) ⌝ }
@@ -70,8 +71,10 @@ fn solve_with(
     answer: &mut [u64],
 ) -> Outcome
     requires { ⌜ (length (now matrix) ≡ length (now right) * columns) × (length (now matrix) ≤ 65536) × (columns ≤ 65536) × (length (now answer) ≡ columns) ⌝ }
-    requires { ⌜ (length (now right) ≤ length (now used)) × (columns ≤ length (now pivots)) × (bitwidth ≤ 64) × ((i : ℕ) → i < length (now right) → getD (now used) i false ≡ false) ⌝ }
-    ensures { λ r. ⌜ Finished bitwidth columns (now (matrix .entry)) (now (right .entry)) (now (matrix .exit)) (now (right .exit)) (now (answer .exit)) (saidNumber r) ⌝ }
+    requires { ⌜ (length (now right) ≤ length (now used)) × (columns ≤ length (now pivots)) × (bitwidth ≤ 64) ×
+        ((i : ℕ) → i < length (now right) → getD (now used) i false ≡ false) ⌝ }
+    ensures { λ r. ⌜ Finished bitwidth columns (now (matrix .entry)) (now (right .entry)) (now (matrix .exit)) (now (right .exit))
+        (now (answer .exit)) (saidNumber r) ⌝ }
 {
     eliminate_tables(matrix, right, used, pivots, columns, bitwidth);
     if conclude(matrix, right, used, pivots, answer, columns, bitwidth) {
@@ -91,7 +94,8 @@ fn solve_small(
 ) -> Outcome
     requires { ⌜ (length (now matrix) ≡ length (now right) * columns) × (length (now matrix) ≤ 65536) × (columns ≤ 1024) × (length (now answer) ≡ columns) ⌝ }
     requires { ⌜ (length (now right) ≤ 1024) × (bitwidth ≤ 64) ⌝ }
-    ensures { λ r. ⌜ Finished bitwidth columns (now (matrix .entry)) (now (right .entry)) (now (matrix .exit)) (now (right .exit)) (now (answer .exit)) (saidNumber r) ⌝ }
+    ensures { λ r. ⌜ Finished bitwidth columns (now (matrix .entry)) (now (right .entry)) (now (matrix .exit)) (now (right .exit))
+        (now (answer .exit)) (saidNumber r) ⌝ }
 {
     let mut used = [false; 1024];
     let mut pivots = [0; 1024];
@@ -116,7 +120,8 @@ fn solve_large(
 ) -> Outcome
     requires { ⌜ (length (now matrix) ≡ length (now right) * columns) × (length (now matrix) ≤ 65536) × (columns ≤ 65536) × (length (now answer) ≡ columns) ⌝ }
     requires { ⌜ (length (now right) ≤ 65536) × (bitwidth ≤ 64) ⌝ }
-    ensures { λ r. ⌜ Finished bitwidth columns (now (matrix .entry)) (now (right .entry)) (now (matrix .exit)) (now (right .exit)) (now (answer .exit)) (saidNumber r) ⌝ }
+    ensures { λ r. ⌜ Finished bitwidth columns (now (matrix .entry)) (now (right .entry)) (now (matrix .exit)) (now (right .exit))
+        (now (answer .exit)) (saidNumber r) ⌝ }
 {
     let mut used = [false; 65536];
     let mut pivots = [0; 65536];
@@ -141,7 +146,8 @@ fn solve_fitting(
 ) -> Outcome
     requires { ⌜ (length (now matrix) ≡ length (now right) * columns) × (length (now matrix) ≤ 65536) × (columns ≤ 65536) × (length (now answer) ≡ columns) ⌝ }
     requires { ⌜ (length (now right) ≤ 65536) × (bitwidth ≤ 64) ⌝ }
-    ensures { λ r. ⌜ Finished bitwidth columns (now (matrix .entry)) (now (right .entry)) (now (matrix .exit)) (now (right .exit)) (now (answer .exit)) (saidNumber r) ⌝ }
+    ensures { λ r. ⌜ Finished bitwidth columns (now (matrix .entry)) (now (right .entry)) (now (matrix .exit)) (now (right .exit))
+        (now (answer .exit)) (saidNumber r) ⌝ }
 {
     if right.len() <= 1024 {
         if columns <= 1024 {

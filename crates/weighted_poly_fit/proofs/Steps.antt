@@ -122,11 +122,20 @@ module _ {t₀ : List ℕ} {a : ℕ} {current₀ ds : List ℕ} {left place high
       pub steps-fits : length (take (length ds - 1) (drop 1 ds)) ≤ length (set current place e)
       steps-fits = omega (arith, length-set current place e, ap length (rest-whole ds), length-drop 1 ds, r .entry .fits, r .same)
 
-      pub steps-room : next + length (listing (chosen (set current place e) (take (length ds - 1) (drop 1 ds))) (take (length ds - 1) (drop 1 ds)) (left - e)) ≤ length t
+      pub steps-room : next + length (listing (chosen (set current place e) (take (length ds - 1) (drop 1 ds))) (take (length ds - 1) (drop 1 ds))
+          (left - e)) ≤ length t
       unfolding done
       steps-room =
-          omega
-          (arith, enough (e + 1) (omega arith), ap length one-more, length-append (done e) (listing (take place current₀ ++ (e ∷ [])) (drop 1 ds) (left - e)), ap length block, r .end, steps-same)
+          omega (
+            arith,
+            enough (e + 1) (omega arith),
+            ap length one-more,
+            length-append (done e)
+                (listing (take place current₀ ++ (e ∷ [])) (drop 1 ds) (left - e)),
+            ap length block,
+            r .end,
+            steps-same,
+          )
 
       -- one exponent more
       pub steps-next : (t′ current′ : List ℕ) (n : ℕ) → length current′ ≡ length (set current place e)
@@ -138,11 +147,19 @@ module _ {t₀ : List ℕ} {a : ℕ} {current₀ ds : List ℕ} {left place high
             entry = r .entry;
             few = omega arith;
             end =
-                omega
-                (arith, l .end, r .end, ap length one-more, length-append (done e) (listing (take place current₀ ++ (e ∷ [])) (drop 1 ds) (left - e)), ap length block);
+                omega (
+                  arith,
+                  l .end,
+                  r .end,
+                  ap length one-more,
+                  length-append (done e)
+                      (listing (take place current₀ ++ (e ∷ [])) (drop 1 ds) (left - e)),
+                  ap length block,
+                );
             written =
                 l .written
-                ∙ ap₂ (λ (u : List ℕ) (i : ℕ). pasted u i (listing (chosen (set current place e) (take (length ds - 1) (drop 1 ds))) (take (length ds - 1) (drop 1 ds)) (left - e))) (r .written) (r .end)
+                ∙ ap₂ (λ (u : List ℕ) (i : ℕ). pasted u i (listing (chosen (set current place e) (take (length ds - 1) (drop 1 ds)))
+                (take (length ds - 1) (drop 1 ds)) (left - e))) (r .written) (r .end)
                 ∙ ap (pasted (pasted t₀ a (done e)) (a + length (done e))) block
                 ∙ pasted-more t₀ a (done e) _ (omega (arith, enough e (r .few)))
                 ∙ ap (pasted t₀ a) (sym one-more);

@@ -10,16 +10,6 @@ ghost use Rattle.meaning.specs.Values.{product};
 ghost use Rattle.weighted_poly_fit.specs.Powers.{Powers, weighed};
 ghost use Rattle.theory.specs.MatrixTables.{flat};
 
-// The falling factorial of x with one factor more, modulo 2^64: after the e factors x, x - 1, .. comes x - e, or 0 from e = x on.
-fn next_falling(before: u64, x: u64, e: u64) -> u64
-    ensures { λ r. ⌜ r ≡ (before * (x - e)) % 2 ^ 64 ⌝ }
-{
-    if x <= e {
-        return 0;
-    }
-    arith::wrapping_mul(before, x - e)
-}
-
 // Fills the table with the falling factorials of x to the exponents 0, 1, .., modulo 2^64.
 pub(crate) fn falling_factorials(table: &mut [u64], x: u64)
     ensures { λ r. ⌜ now (table .exit) ≡ tabulate (length (now (table .entry))) (λ e. falling x e % 2 ^ 64) ⌝ }
@@ -28,7 +18,7 @@ pub(crate) fn falling_factorials(table: &mut [u64], x: u64)
     let mut e = 0;
     while e < table.len() {
         table[e] = value;
-        value = next_falling(value, x, e as u64);
+        value = math_utils::next_falling(value, x, e as u64);
         e += 1;
     }
 }

@@ -24,11 +24,38 @@ recover-lines-spec =
     Inv-loop
     μ-loop
     (λ c. (zero-le, lines-start _ _ _ _))
-    (λ c. search needs) (λ c. search needs) (λ c. search needs) (λ c. search needs) (λ c. search needs) (λ c. search needs) (λ c. search needs) (λ c. search needs) (λ c. search needs) (λ c. search needs)
-    (λ c κs. let b = c .before .before .before in let a = b .before .before .before .args in let p = b .before .before .before .pre in let end = b .loop .from + a .size in let given = length-part (b .loop .from) end (now (a .values)) (omega arith) in let room = length-part (b .loop .from) end (b .loop .out) (omega (arith, b .loop .inv .1 .filled .same)) in (p .0, p .1, omega (arith, given), omega (arith, given), room ∙ sym given))
-    (λ c. let b = c .before .before .before .before .before .before .before in let a = b .before .before .before .args in let end = b .loop .from + a .size in let ys = c .before .before .before .recover-line .last .1 .1 .0 in length-put (b .loop .from) end (b .loop .out) (omega (arith, b .loop .inv .1 .filled .same)) (omega arith) ys (c .before .before .before .recover-line .kept .1 .1 .0 ∙ length-part (b .loop .from) end (b .loop .out) (omega (arith, b .loop .inv .1 .filled .same))) ∙ b .loop .inv .1 .filled .same)
-    (λ c. let b = c .before .before .before .before .before .before .before in let a = b .before .before .before .args in let ys = c .before .before .before .recover-line .last .1 .1 .0 in λ n whole. lines-fail (a .bitwidth) (a .size) (now (a .values)) (now (a .out)) (b .loop .out) (b .loop .from) (b .loop .inv .1) (omega arith) (omega arith) ys {n = n} whole (subst (λ (r : Bool). Single (a .bitwidth) (part (b .loop .from) (b .loop .from + a .size) (now (a .values))) ys r) (not-true _ (c .if1 .taken)) (c .before .before .before .recover-line .ensures)))
+    (λ c.
+    search needs) (λ c. search needs) (λ c. search needs) (λ c. search needs) (λ c. search needs) (λ c. search needs) (λ c. search needs)
+    (λ c. search needs) (λ c. search needs) (λ c. search needs)
+    (λ c κs.
+    let b = c .before .before .before in let a = b .before .before .before .args in let p = b .before .before .before .pre in
+    let end = b .loop .from + a .size in let given = length-part (b .loop .from) end (now (a .values)) (omega arith) in
+    let room = length-part (b .loop .from) end (b .loop .out) (omega (arith, b .loop .inv .1 .filled .same)) in
+    (p .0, p .1, omega (arith, given), omega (arith, given), room ∙ sym given))
+    (λ c.
+    let b = c .before .before .before .before .before .before .before in let a = b .before .before .before .args in
+    let end = b .loop .from + a .size in let ys = c .before .before .before .recover-line .last .1 .1 .0 in
+    length-put (b .loop .from) end (b .loop .out) (omega (arith, b .loop .inv .1 .filled .same)) (omega arith) ys
+    (c .before .before .before .recover-line .kept .1 .1 .0 ∙ length-part (b .loop .from) end (b .loop .out)
+    (omega (arith, b .loop .inv .1 .filled .same))) ∙ b .loop .inv .1 .filled .same)
+    (λ c.
+    let b = c .before .before .before .before .before .before .before in let a = b .before .before .before .args in
+    let ys = c .before .before .before .recover-line .last .1 .1 .0 in
+    λ n whole. lines-fail (a .bitwidth) (a .size) (now (a .values)) (now (a .out)) (b .loop .out) (b .loop .from) (b .loop .inv .1) (omega arith)
+    (omega arith) ys {n = n} whole (subst (λ (r : Bool). Single (a .bitwidth) (part (b .loop .from) (b .loop .from + a .size) (now (a .values))) ys r)
+    (not-true _ (c .if1 .taken)) (c .before .before .before .recover-line .ensures)))
     (λ c. omega arith)
-    (λ c. let b = c .before .before .before .before .before .before .before in let a = b .before .before .before .args in let ys = c .before .before .before .recover-line .last .1 .1 .0 in (omega arith, lines-step (a .bitwidth) (a .size) (now (a .values)) (now (a .out)) (b .loop .out) (b .loop .from) (b .loop .inv .1) (omega arith) (omega arith) ys (b .loop .inv .1 .filled .same ∙ b .before .before .before .pre .4) (subst (λ (r : Bool). Single (a .bitwidth) (part (b .loop .from) (b .loop .from + a .size) (now (a .values))) ys r) (not-false _ (c .if1 .left)) (c .before .before .before .recover-line .ensures))))
+    (λ c.
+    let b = c .before .before .before .before .before .before .before in let a = b .before .before .before .args in
+    let ys = c .before .before .before .recover-line .last .1 .1 .0 in (
+      omega arith,
+      lines-step (a .bitwidth) (a .size) (now (a .values)) (now (a .out)) (b .loop .out) (b .loop .from) (b .loop .inv .1) (omega arith)
+          (omega arith) ys (b .loop .inv .1 .filled .same ∙ b .before .before .before .pre .4)
+          (subst (λ (r : Bool). Single (a .bitwidth) (part (b .loop .from) (b .loop .from + a .size) (now (a .values))) ys r) (not-false _ (c .if1 .left))
+          (c .before .before .before .recover-line .ensures)),
+    ))
     (λ c. c .before .loop .inv .1 .filled .same)
-    (λ c. let b = c .before in let a = b .before .before .before .args in λ n whole. lines-done (a .bitwidth) (a .size) (now (a .values)) (now (a .out)) (b .loop .out) (b .loop .from) n (b .loop .inv .1) (omega arith) whole (b .before .before .before .pre .4)))
+    (λ c.
+    let b = c .before in let a = b .before .before .before .args in
+    λ n whole. lines-done (a .bitwidth) (a .size) (now (a .values)) (now (a .out)) (b .loop .out) (b .loop .from) n (b .loop .inv .1)
+    (omega arith) whole (b .before .before .before .pre .4)))

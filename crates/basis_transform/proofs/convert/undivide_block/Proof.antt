@@ -13,7 +13,8 @@ use Rattle.basis_transform.proofs.Passes.{after-pass, eq-tabulate-of-sh
 use Rattle.theory.specs.SyntheticDivision.{Divided, divided-of-powers, undivided-powers}
 
 abbrev Inv-loop : tie.InvT-loop
-Inv-loop part₀ stride degree done₀ part done = (done ≤ degree) × Divided (2 ^ 64) stride degree (lined (powerLine (2 ^ 64)) stride degree (at part₀)) (length part₀) (done - 1) part
+Inv-loop part₀ stride degree done₀ part done = (done ≤ degree) × Divided (2 ^ 64) stride degree (lined (powerLine (2 ^ 64)) stride degree (at part₀))
+    (length part₀) (done - 1) part
 
 abbrev μ-loop : tie.MeasureT-loop
 μ-loop part₀ stride degree done₀ part done = done
@@ -24,10 +25,18 @@ undivide-block-spec =
     (tie.spec
     Inv-loop
     μ-loop
-    (λ c. (search needs, divided-of-powers _ (pow-pos 64) (c .before .pre .0) (c .before .pre .1) (omega arith) (λ i p. omega (arith, c .slice-known .given i))))
+    (λ c. (
+      search needs,
+      divided-of-powers _ (pow-pos 64) (c .before .pre .0) (c .before .pre .1) (omega arith)
+          (λ i p. omega (arith, c .slice-known .given i)),
+    ))
     (λ c. search needs) (λ c. search needs)
     (λ c κs. let b = c .before .before in let a = b .before .before in (a .pre .0, search needs, b .loop .inv .1 .shows .same ∙ a .pre .1))
     (λ c. search needs)
-    (λ c. let b = c .before .before .before .before .before in let e : b .loop .done - 1 ≡ suc (b .loop .done - 1 - 1) = omega arith in (search needs, after-pass (rw e at (b .loop .inv .1)) (c .before .before .undivide .ensures)))
+    (λ c.
+    let b = c .before .before .before .before .before in let e : b .loop .done - 1 ≡ suc (b .loop .done - 1 - 1) = omega arith in
+    (search needs, after-pass (rw e at (b .loop .inv .1)) (c .before .before .undivide .ensures)))
     (λ c. c .before .loop .inv .1 .shows .same)
-    (λ c. let a = c .before .before .before in let e : c .before .loop .done - 1 ≡ 0 = omega arith in eq-tabulate-of-shows (undivided-powers _ (pow-pos 64) (a .pre .0) (a .pre .1) (rw e at (c .before .loop .inv .1)))))
+    (λ c.
+    let a = c .before .before .before in let e : c .before .loop .done - 1 ≡ 0 = omega arith in
+    eq-tabulate-of-shows (undivided-powers _ (pow-pos 64) (a .pre .0) (a .pre .1) (rw e at (c .before .loop .inv .1)))))

@@ -14,9 +14,11 @@ use Rattle.bench_file.proofs.answer.put_terms.Tie as tie
 abbrev Inv-loop : tie.InvT-loop
 Inv-loop out₀ at coefficients degree variables next₀ cell₀ out next cell =
     (cell ≤ length coefficients)
-    × (next + length (termLines (replicate variables degree) cell (drop cell coefficients)) ≡ at + length (termLines (replicate variables degree) 0 coefficients))
+    × (next + length (termLines (replicate variables degree) cell (drop cell coefficients)) ≡ at + length
+    (termLines (replicate variables degree) 0 coefficients))
     × (length out ≡ length out₀)
-    × (sets out₀ at (termLines (replicate variables degree) 0 coefficients) ≡ sets out next (termLines (replicate variables degree) cell (drop cell coefficients)))
+    × (sets out₀ at (termLines (replicate variables degree) 0 coefficients) ≡ sets out next
+    (termLines (replicate variables degree) cell (drop cell coefficients)))
 
 abbrev μ-loop : tie.MeasureT-loop
 μ-loop out₀ at coefficients degree variables next₀ cell₀ out next cell = length coefficients - cell
@@ -29,9 +31,36 @@ put-terms-spec =
     μ-loop
     (λ c. (omega arith, refl, refl, refl))
     (λ c. search needs) (λ c. search needs)
-    (λ c κs. let k = c .before .before .before in let a = c .before .before .before .before .before .before .args in omega (arith, c .before .before .before .before .before .before .pre, k .loop .inv .1, k .loop .inv .2, terms-next-length (replicate (a .variables) (a .degree)) (now (a .coefficients)) (k .loop .cell) (c .before .before .loop-test .taken)))
+    (λ c κs.
+    let k = c .before .before .before in let a = c .before .before .before .before .before .before .args in
+    omega (
+      arith,
+      c .before .before .before .before .before .before .pre,
+      k .loop .inv .1,
+      k .loop .inv .2,
+      terms-next-length
+          (replicate (a .variables) (a .degree)) (now (a .coefficients)) (k .loop .cell) (c .before .before .loop-test .taken),
+    ))
     (λ c. search needs)
     (λ c. omega arith)
-    (λ c. let k = c .before .before .before .before .before .before in let a = c .before .before .before .before .before .before .before .before .before .args in let p = c .before .before .put-term in let more = c .before .before .before .before .before .loop-test .taken in (omega arith, omega (arith, k .loop .inv .1, p .ensures .0, terms-next-length (replicate (a .variables) (a .degree)) (now (a .coefficients)) (k .loop .cell) more), p .kept .0 ∙ k .loop .inv .2, k .loop .inv .3 ∙ terms-stored (replicate (a .variables) (a .degree)) (now (a .coefficients)) (k .loop .cell) (k .loop .out) (p .last .0) (k .loop .next) (p .result) more (p .ensures .1) (p .ensures .0)))
+    (λ c.
+    let k = c .before .before .before .before .before .before in
+    let a = c .before .before .before .before .before .before .before .before .before .args in let p = c .before .before .put-term in
+    let more = c .before .before .before .before .before .loop-test .taken in (
+      omega arith,
+      omega (
+        arith,
+        k .loop .inv .1,
+        p .ensures .0,
+        terms-next-length (replicate (a .variables) (a .degree)) (now (a .coefficients))
+            (k .loop .cell) more,
+      ),
+      p .kept .0 ∙ k .loop .inv .2,
+      k .loop .inv .3 ∙ terms-stored (replicate (a .variables) (a .degree)) (now (a .coefficients))
+          (k .loop .cell) (k .loop .out) (p .last .0) (k .loop .next) (p .result) more (p .ensures .1) (p .ensures .0),
+    ))
     (λ c. c .before .loop .inv .2)
-    (λ c. let k = c .before in let a = c .before .before .before .before .args in let z = terms-end (replicate (a .variables) (a .degree)) (now (a .coefficients)) (k .loop .cell) (c .loop-test .left) in (omega (arith, k .loop .inv .1, ap length z), sym (k .loop .inv .3 ∙ ap (sets (k .loop .out) (k .loop .next)) z))))
+    (λ c.
+    let k = c .before in let a = c .before .before .before .before .args in
+    let z = terms-end (replicate (a .variables) (a .degree)) (now (a .coefficients)) (k .loop .cell) (c .loop-test .left) in
+    (omega (arith, k .loop .inv .1, ap length z), sym (k .loop .inv .3 ∙ ap (sets (k .loop .out) (k .loop .next)) z))))

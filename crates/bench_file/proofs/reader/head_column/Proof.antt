@@ -9,8 +9,16 @@ head-column-spec =
     tie.close
     (tie.spec
     (λ c κs. search needs) (λ c. search needs) (λ c κs. search needs) (λ c. search needs) (λ c κs. search needs)
-    (λ c. c .open-number .ensures ∙ sym (head-opens _ _ _ (c .before .before .before .before .before .if1 .taken) (sym (c .before .before .before .before .with-column .ensures) ∙ c .before .before .found .given .1)))
-    (λ c. c .at-stage .ensures ∙ sym (head-opens-ill _ _ (c .before .before .before .before .if1 .taken) (sym (c .before .before .before .with-column .ensures) ∙ c .before .enum-told .given .1)))
+    (λ c.
+    c .open-number .ensures ∙ sym (head-opens _ _ _ (c .before .before .before .before .before .if1 .taken)
+    (sym (c .before .before .before .before .with-column .ensures) ∙ c .before .before .found .given .1)))
+    (λ c.
+    c .at-stage .ensures ∙ sym (head-opens-ill _ _ (c .before .before .before .before .if1 .taken)
+    (sym (c .before .before .before .with-column .ensures) ∙ c .before .enum-told .given .1)))
     (λ c κs. search needs) (λ c. search needs) (λ c κs. search needs) (λ c. search needs) (λ c κs. search needs)
-    (λ c. c .with-head .ensures ∙ sym (head-closes _ _ _ (c .before .before .before .before .before .if1 .left) (sym (c .before .before .before .before .with-digit .ensures) ∙ c .before .before .found2 .given .1)))
-    (λ c. c .at-stage2 .ensures ∙ sym (head-closes-ill _ _ (c .before .before .before .before .if1 .left) (sym (c .before .before .before .with-digit .ensures) ∙ c .before .enum-told2 .given .1))))
+    (λ c.
+    c .with-head .ensures ∙ sym (head-closes _ _ _ (c .before .before .before .before .before .if1 .left)
+    (sym (c .before .before .before .before .with-digit .ensures) ∙ c .before .before .found2 .given .1)))
+    (λ c.
+    c .at-stage2 .ensures ∙ sym (head-closes-ill _ _ (c .before .before .before .before .if1 .left)
+    (sym (c .before .before .before .with-digit .ensures) ∙ c .before .enum-told2 .given .1))))

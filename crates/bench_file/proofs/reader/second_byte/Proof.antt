@@ -13,10 +13,20 @@ second-byte-spec =
     (λ c κs. search needs)
     (λ c. c .at-stage .ensures ∙ sym (second-broken _ _ (c .before .before .if1 .left) (c .before .if2 .taken)))
     (λ c. search needs) (λ c κs. search needs)
-    (λ c. c .at-stage2 .ensures ∙ sym (second-high _ _ (c .before .before .before .before .if1 .left) (c .before .before .before .if2 .left) (c .before .if3 .taken)))
+    (λ c.
+    c .at-stage2 .ensures ∙ sym (second-high _ _ (c .before .before .before .before .if1 .left) (c .before .before .before .if2 .left)
+    (c .before .if3 .taken)))
     (λ c. search needs) (λ c κs. search needs)
-    (λ c. c .at-stage3 .ensures ∙ sym (second-many _ _ (c .before .before .before .before .before .before .if1 .left) (c .before .before .before .before .before .if2 .left) (c .before .before .before .if3 .left) (c .before .if4 .taken)))
+    (λ c.
+    c .at-stage3 .ensures ∙ sym (second-many _ _ (c .before .before .before .before .before .before .if1 .left)
+    (c .before .before .before .before .before .if2 .left) (c .before .before .before .if3 .left) (c .before .if4 .taken)))
     (λ c. search needs) (λ c κs. search needs)
-    (λ c. c .at-stage4 .ensures ∙ sym (second-other _ _ (c .before .before .before .before .before .before .before .if1 .left) (c .before .before .before .before .before .before .if2 .left) (c .before .before .before .before .if3 .left) (c .before .before .if4 .left) (c .before .if5 .taken)))
+    (λ c.
+    c .at-stage4 .ensures ∙ sym (second-other _ _ (c .before .before .before .before .before .before .before .if1 .left)
+    (c .before .before .before .before .before .before .if2 .left) (c .before .before .before .before .if3 .left) (c .before .before .if4 .left)
+    (c .before .if5 .taken)))
     (λ c κs. search needs)
-    (λ c. c .at-stage5 .ensures ∙ sym (second-ends _ _ (c .before .before .before .before .before .before .before .if1 .left) (c .before .before .before .before .before .before .if2 .left) (c .before .before .before .before .if3 .left) (c .before .before .if4 .left) (c .before .if5 .left))))
+    (λ c.
+    c .at-stage5 .ensures ∙ sym (second-ends _ _ (c .before .before .before .before .before .before .before .if1 .left)
+    (c .before .before .before .before .before .before .if2 .left) (c .before .before .before .before .if3 .left) (c .before .before .if4 .left)
+    (c .before .if5 .left))))

@@ -15,7 +15,8 @@ support-of c = c .before .before .before .before .before .before .before .before
 -- the fit on what is decoded is the fit on what the bytes hold
 held : (c : tie.After-recover-weighted-poly) →
     let k = support-of c .before .before .before .before .before .before .before .before .before .before .before .before .args in
-    fitOf (k .total) (k .width) (support-of c .decode .last .1 .0) (k .max-degree) (k .grid-degree) (c .before .before .before .before .before .before .before .before .before .before .before .before .before .decode2 .last .1 .0)
+    fitOf (k .total) (k .width) (support-of c .decode .last .1 .0) (k .max-degree) (k .grid-degree)
+    (c .before .before .before .before .before .before .before .before .before .before .before .before .before .decode2 .last .1 .0)
     (c .before .before .before .before .before .before .before .before .before .decode3 .last .1 .0) (now (k .matrix)) (now (k .right)) (now (k .found))
     ≡ fitOf (k .total) (k .width) (decoded (now (k .support))) (k .max-degree) (k .grid-degree) (decoded (now (k .weights)))
     (decoded (now (k .targets))) (now (k .matrix)) (now (k .right)) (now (k .found))
@@ -23,8 +24,11 @@ held c =
     let k = support-of c .before .before .before .before .before .before .before .before .before .before .before .before .args in
     let fit : List ℕ → List ℕ → List ℕ → Fit =
     λ s v t. fitOf (k .total) (k .width) s (k .max-degree) (k .grid-degree) v t (now (k .matrix)) (now (k .right)) (now (k .found)) in
-    ap₂ (λ (s v : List ℕ). fit s v (c .before .before .before .before .before .before .before .before .before .decode3 .last .1 .0)) (support-of c .decode .ensures) (c .before .before .before .before .before .before .before .before .before .before .before .before .before .decode2 .ensures)
-    ∙ ap (fit (decoded (now (k .support))) (decoded (now (k .weights)))) (c .before .before .before .before .before .before .before .before .before .decode3 .ensures)
+    ap₂ (λ (s v : List ℕ). fit s v (c .before .before .before .before .before .before .before .before .before .decode3 .last .1 .0))
+    (support-of c .decode .ensures)
+    (c .before .before .before .before .before .before .before .before .before .before .before .before .before .decode2 .ensures)
+    ∙ ap (fit (decoded (now (k .support))) (decoded (now (k .weights))))
+    (c .before .before .before .before .before .before .before .before .before .decode3 .ensures)
 
 pub fit-in-spec : {M : Type 1} → statement M
 fit-in-spec =
@@ -33,7 +37,8 @@ fit-in-spec =
     (λ c κs. search needs) (λ c κs. search needs) (λ c κs. search needs) (λ c κs. search needs)
     (λ c κs.
     let r = c .before .before .before .before .before .before .before .before in
-    support-of r .before .before .before .before .before .before .before .before .before .before .before .before .pre .3 ∙ ap (_* 8) (sym (r .recover-weighted-poly .kept .1 .1 .1 .1 .1 .1 .1 .1 .1 .0)))
+    support-of r .before .before .before .before .before .before .before .before .before .before .before .before .pre .3 ∙ ap (_* 8)
+    (sym (r .recover-weighted-poly .kept .1 .1 .1 .1 .1 .1 .1 .1 .1 .0)))
     (λ c. search needs) (λ c. search needs) (λ c. search needs) (λ c. search needs)
     (λ c. search needs) (λ c. search needs) (λ c. search needs)
     (λ c.

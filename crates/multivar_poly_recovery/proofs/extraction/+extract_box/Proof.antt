@@ -104,31 +104,59 @@ pub +extract-box-spec : {M : Type 1} → statement M
     let p = b .pre .1 in
     let ds = b .args .degrees .now in
     let less : b .args .first ≤ length ds - 1 = omega (arith, p .0, l .before .before .if1 .left) in
-    let rest = take-rest ds (b .args .first) (length ds - 1) less in
-    (search needs, ((omega (arith, i .1 .shorter), subBox-length _ _ _ _ _ _ (l .loop .part) (l .loop .total) (l .loop .from) (l .loop .e) (i .0) (omega arith) (i .1 .whole) _ (i .1 .sized), omega (arith, c .cut .ensures), p .0 .3), (p .1 .0, (rw rest (p .1 .1 .0), rw rest (p .1 .1 .1))))))
+    let rest = take-rest ds (b .args .first) (length ds - 1) less in (
+      search needs,
+      (
+        (
+          omega (arith, i .1 .shorter),
+          subBox-length _ _ _ _ _ _ (l .loop .part) (l .loop .total) (l .loop .from) (l .loop .e) (i .0)
+              (omega arith) (i .1 .whole) _ (i .1 .sized),
+          omega (arith, c .cut .ensures),
+          p .0 .3,
+        ),
+        (p .1 .0, (rw rest (p .1 .1 .0), rw rest (p .1 .1 .1))),
+      ),
+    ))
     (λ c. search needs)
     (λ c.
     let l = c .before .before .before .before .before .before .before .before .before .before in
     let b = l .before .before .before .before .before in
     let i = l .loop .inv in
     let h = c .before .before .before .before .before .before .before .before .before .loop-test .taken in
-    promise-split _ _ _ _ _ (b .args .part .now) _ _ (i .1 .split) (subBox-fails _ _ _ _ _ (b .args .part .now) (l .loop .part) (l .loop .total) (l .loop .from) (l .loop .e) (i .0) (omega (arith, h, i .2)) (i .1 .whole) _ (i .1 .sized) _ (b .pre .1 .1 .0) (omega (arith, h, i .2, i .1 .small)) _ _ (c .before .before .before .before .cut .ensures) (c .before .before .before .before .before .before .before .wrapping-mul .ensures) _ _ (c .before .before .before .extract-box .ensures) _ (not-true _ (c .if2 .taken))))
+    promise-split _ _ _ _ _ (b .args .part .now) _ _ (i .1 .split)
+    (subBox-fails _ _ _ _ _ (b .args .part .now) (l .loop .part) (l .loop .total) (l .loop .from) (l .loop .e) (i .0) (omega (arith, h, i .2))
+    (i .1 .whole) _ (i .1 .sized) _ (b .pre .1 .1 .0) (omega (arith, h, i .2, i .1 .small)) _ _ (c .before .before .before .before .cut .ensures)
+    (c .before .before .before .before .before .before .before .wrapping-mul .ensures) _ _ (c .before .before .before .extract-box .ensures) _
+    (not-true _ (c .if2 .taken))))
     (λ c. omega arith)
     (λ c κs. search needs)
     (λ c.
     let l = c .before .before .before .before .before .before .before .before .before .before .before in
     let i = l .loop .inv in
-    omega (arith, total-le _ (l .loop .total + c .twos-in .result) (l .loop .e + 1) (total-step _ (l .loop .total) (l .loop .e) _ (i .0 .sum) (c .twos-in .ensures)), l .before .before .before .before .before .pre))
+    omega (
+      arith,
+      total-le _ (l .loop .total + c .twos-in .result) (l .loop .e + 1)
+          (total-step _ (l .loop .total) (l .loop .e) _ (i .0 .sum) (c .twos-in .ensures)),
+      l .before .before .before .before .before .pre,
+    ))
     (λ c. search needs)
     (λ c.
     let l = c .before .before .before .before .before .before .before .before .before .before .before in
     let b = l .before .before .before .before .before in
     let i = l .loop .inv in
-    let h = c .before .before .before .before .before .before .before .before .before .before .loop-test .taken in
-    (subBoxes-step _ _ _ _ _ _ (l .loop .part) (l .loop .total) (l .loop .from) (l .loop .e) (i .0) (omega (arith, h, i .2)) (i .1 .whole) _ (i .1 .sized) _ (b .pre .1 .1 .0) (omega (arith, h, i .2, i .1 .small)) _ _ (c .before .before .before .before .before .cut .ensures) (c .before .before .before .before .before .before .before .before .wrapping-mul .ensures) _ _ (c .before .before .before .before .extract-box .ensures) _ (c .before .before .before .before .extract-box .kept .0) (not-false _ (c .before .if2 .left)) (c .twos-in .ensures), i .1, refl))
+    let h = c .before .before .before .before .before .before .before .before .before .before .loop-test .taken in (
+      subBoxes-step _ _ _ _ _ _ (l .loop .part) (l .loop .total) (l .loop .from) (l .loop .e) (i .0) (omega (arith, h, i .2)) (i .1 .whole) _
+          (i .1 .sized) _ (b .pre .1 .1 .0) (omega (arith, h, i .2, i .1 .small)) _ _ (c .before .before .before .before .before .cut .ensures)
+          (c .before .before .before .before .before .before .before .before .wrapping-mul .ensures) _ _
+          (c .before .before .before .before .extract-box .ensures) _ (c .before .before .before .before .extract-box .kept .0)
+          (not-false _ (c .before .if2 .left)) (c .twos-in .ensures),
+      i .1,
+      refl,
+    ))
     (λ c. search needs)
     (λ c.
     let l = c .before in
     let b = l .before .before .before .before .before in
     let i = l .loop .inv in
-    promise-split _ _ _ _ _ (b .args .part .now) _ _ (i .1 .split) (subBoxes-done _ _ _ _ _ (b .args .part .now) (l .loop .part) (l .loop .total) (l .loop .from) (l .loop .e) (i .0) (omega arith)))
+    promise-split _ _ _ _ _ (b .args .part .now) _ _ (i .1 .split)
+    (subBoxes-done _ _ _ _ _ (b .args .part .now) (l .loop .part) (l .loop .total) (l .loop .from) (l .loop .e) (i .0) (omega arith)))

@@ -27,16 +27,70 @@ add-variable-spec =
     (λ c. search needs)
     (λ c. let b = c .before .before .before .before in omega (arith, c .shared-slice-known2 .given (b .args .i)))
     (λ c. let b = c .before .before .before .before in omega (arith, c .shared-slice-known2 .given (b .args .i)))
-    (λ c. let b = c .before .before .before .before in let p = b .pre in (copies-start _ _ _ _ _ (p .1 .1 .1) _ (p .0 .1), refl, refl, refl, c .shared-slice-known2 .given (b .args .i) .fits, cells-bound _ _ _ (p .0 .1) (p .0 .2)))
+    (λ c.
+    let b = c .before .before .before .before in let p = b .pre in (
+      copies-start _ _ _ _ _ (p .1 .1 .1) _ (p .0 .1),
+      refl,
+      refl,
+      refl,
+      c .shared-slice-known2 .given (b .args .i) .fits,
+      cells-bound _ _ _ (p .0 .1)
+          (p .0 .2),
+    ))
     (λ c. omega arith)
     (λ c. omega arith)
-    (λ c κs. let l = c .before .before .before .before in let b = l .before .before .before .before .before in let p = b .pre in let i = l .loop .inv in let r = copies-behind _ _ _ (l .loop .weights) (l .loop .units) (l .loop .total) (l .loop .from) (l .loop .e) (i .0) in let f = copies-fit _ _ _ (l .loop .weights) (l .loop .units) (l .loop .total) (l .loop .from) (l .loop .e) (i .0) (omega arith) in ((omega (arith, r, p .0 .1), omega (arith, f, p .0 .1, p .1 .0), omega (arith, f, p .0 .1, p .1 .0), omega (arith, total-le 0 (l .loop .total) (l .loop .e) (i .0 .sum))), λ k h. copies-small _ _ _ (l .loop .weights) (l .loop .units) (l .loop .total) (l .loop .from) (l .loop .e) (i .0) (p .0 .3) k (rw (p .0 .1) at h)))
-    (λ c. let l = c .before .before .before .before .before .before .before .before .before in let b = l .before .before .before .before .before in let i = l .loop .inv in omega (arith, copies-fit _ _ _ (l .loop .weights) (l .loop .units) (l .loop .total) (l .loop .from) (l .loop .e) (i .0) (omega arith), b .pre .0 .1))
+    (λ c κs.
+    let l = c .before .before .before .before in let b = l .before .before .before .before .before in let p = b .pre in let i = l .loop .inv in
+    let r = copies-behind _ _ _ (l .loop .weights) (l .loop .units) (l .loop .total) (l .loop .from) (l .loop .e) (i .0) in
+    let f = copies-fit _ _ _ (l .loop .weights) (l .loop .units) (l .loop .total) (l .loop .from) (l .loop .e) (i .0) (omega arith) in (
+      (
+        omega (arith, r, p .0 .1),
+        omega (arith, f, p .0 .1, p .1 .0),
+        omega (arith, f, p .0 .1, p .1 .0),
+        omega
+            (arith, total-le 0 (l .loop .total) (l .loop .e) (i .0 .sum)),
+      ),
+      λ k h. copies-small _ _ _ (l .loop .weights) (l .loop .units) (l .loop .total)
+          (l .loop .from) (l .loop .e) (i .0) (p .0 .3) k (rw (p .0 .1) at h),
+    ))
+    (λ c.
+    let l = c .before .before .before .before .before .before .before .before .before in let b = l .before .before .before .before .before in
+    let i = l .loop .inv in
+    omega (
+      arith,
+      copies-fit _ _ _ (l .loop .weights) (l .loop .units) (l .loop .total) (l .loop .from) (l .loop .e) (i .0)
+          (omega arith),
+      b .pre .0 .1,
+    ))
     (λ c. omega arith)
     (λ c κs. search needs)
-    (λ c. let l = c .before .before .before .before .before .before .before .before .before .before in let i = l .loop .inv in omega (arith, total-le 0 (l .loop .total + c .twos-in .result) (l .loop .e + 1) (total-step 0 (l .loop .total) (l .loop .e) _ (i .0 .sum) (c .twos-in .ensures))))
+    (λ c.
+    let l = c .before .before .before .before .before .before .before .before .before .before in let i = l .loop .inv in
+    omega (
+      arith,
+      total-le 0 (l .loop .total + c .twos-in .result) (l .loop .e + 1)
+          (total-step 0 (l .loop .total) (l .loop .e) _ (i .0 .sum) (c .twos-in .ensures)),
+    ))
     (λ c. omega arith)
-    (λ c. let l = c .before .before .before .before .before .before .before .before .before .before in let b = l .before .before .before .before .before in let p = b .pre in let i = l .loop .inv in let x = c .before .before .before .before .before .copy-cells .ensures in let h = c .before .before .before .before .before .before .before .before .before .loop-test .taken in (copies-step _ _ _ (l .loop .weights) (l .loop .units) (l .loop .total) (l .loop .from) (l .loop .e) (i .0) _ _ _ _ _ (p .1 .1 .0) (omega (arith, h, i .3)) (omega (arith, h, i .3, i .4)) (p .0 .1) (x .0) (x .1) (c .twos-in .ensures), x .0 .same ∙ i .1, x .1 .same ∙ i .2, i .3, i .4, i .5))
+    (λ c.
+    let l = c .before .before .before .before .before .before .before .before .before .before in let b = l .before .before .before .before .before in
+    let p = b .pre in let i = l .loop .inv in let x = c .before .before .before .before .before .copy-cells .ensures in
+    let h = c .before .before .before .before .before .before .before .before .before .loop-test .taken in (
+      copies-step _ _ _ (l .loop .weights) (l .loop .units) (l .loop .total) (l .loop .from) (l .loop .e) (i .0) _ _ _ _ _ (p .1 .1 .0)
+          (omega (arith, h, i .3)) (omega (arith, h, i .3, i .4)) (p .0 .1) (x .0) (x .1) (c .twos-in .ensures),
+      x .0 .same ∙ i .1,
+      x .1 .same
+          ∙ i .2,
+      i .3,
+      i .4,
+      i .5,
+    ))
     (λ c. c .before .loop .inv .1)
     (λ c. c .before .loop .inv .2)
-    (λ c. let l = c .before in let b = l .before .before .before .before .before in let i = l .loop .inv in let more = take-more (b .args .degrees .now) (b .args .i) (b .pre .0 .0) in (copies-count _ _ _ (l .loop .weights) (l .loop .units) (l .loop .total) (l .loop .from) (l .loop .e) (i .0) (omega arith) ∙ ap cells (sym more), rw more (copies-done _ _ _ (l .loop .weights) (l .loop .units) (l .loop .total) (l .loop .from) (l .loop .e) (i .0) (omega arith)))))
+    (λ c.
+    let l = c .before in let b = l .before .before .before .before .before in let i = l .loop .inv in
+    let more = take-more (b .args .degrees .now) (b .args .i) (b .pre .0 .0) in (
+      copies-count _ _ _ (l .loop .weights) (l .loop .units) (l .loop .total) (l .loop .from) (l .loop .e) (i .0) (omega arith) ∙ ap cells
+          (sym more),
+      rw more (copies-done _ _ _ (l .loop .weights) (l .loop .units) (l .loop .total) (l .loop .from) (l .loop .e) (i .0) (omega arith)),
+    )))

@@ -8,9 +8,21 @@ extract-cell-spec =
     tie.close
     (tie.spec
     (λ c κs. search needs)
-    (λ c. let b = c .before .before .before in heavy-zero (b .args .x) (b .args .bitwidth) _ (b .pre) (c .before .before .bitmask .ensures) (b .args .q) _ (c .before .if1 .taken) (c .if2 .taken))
-    (λ c. let b = c .before .before .before in heavy-refused (b .args .x) (b .args .bitwidth) _ (b .pre) (c .before .before .bitmask .ensures) (b .args .q) _ (c .before .if1 .taken) (c .if2 .left))
+    (λ c.
+    let b = c .before .before .before in
+    heavy-zero (b .args .x) (b .args .bitwidth) _ (b .pre) (c .before .before .bitmask .ensures) (b .args .q) _ (c .before .if1 .taken)
+    (c .if2 .taken))
+    (λ c.
+    let b = c .before .before .before in
+    heavy-refused (b .args .x) (b .args .bitwidth) _ (b .pre) (c .before .before .bitmask .ensures) (b .args .q) _ (c .before .if1 .taken)
+    (c .if2 .left))
     (λ c. search needs) (λ c. search needs)
-    (λ c. let b = c .before .before .before in light-refused (b .args .x) (b .args .bitwidth) _ (b .pre) (c .before .before .bitmask .ensures) (b .args .q) _ (c .before .if1 .left) (c .if3 .taken))
+    (λ c.
+    let b = c .before .before .before in
+    light-refused (b .args .x) (b .args .bitwidth) _ (b .pre) (c .before .before .bitmask .ensures) (b .args .q) _ (c .before .if1 .left)
+    (c .if3 .taken))
     (λ c κs. search needs) (λ c. search needs)
-    (λ c. let b = c .before .before .before .before in light-passes (b .args .x) (b .args .bitwidth) _ (b .pre) (c .before .before .before .bitmask .ensures) (b .args .q) _ (c .before .before .if1 .left) _ (c .before .if3 .left) (c .wrapping-mul .ensures)))
+    (λ c.
+    let b = c .before .before .before .before in
+    light-passes (b .args .x) (b .args .bitwidth) _ (b .pre) (c .before .before .before .bitmask .ensures) (b .args .q) _
+    (c .before .before .if1 .left) _ (c .before .if3 .left) (c .wrapping-mul .ensures)))

@@ -15,7 +15,7 @@ use Rattle.poly.proofs.cells.box_value.Reads as box-value
 use Rattle.poly.proofs.cells.box_value.Kinds as box-value-kinds
 use Rattle.poly.proofs.cells.+box_value.Lts-box_value as box-value-lts
 use Rattle.arith.proofs.wrapping_mul.Reads as wrapping-mul-reads
-use Rattle.poly.proofs.cells.next_falling.Reads as next-falling-reads
+use Rattle.math_utils.proofs.next_falling.Reads as next-falling-reads
 use Rattle.std.proofs.num.wrapping_add_u64.Reads as wrapping-add-u64-reads
 use Rattle.poly.proofs.cells.+box_value.{statement}
 use Rattle.poly.proofs.cells.+box_value.Tie.{close}

@@ -10,7 +10,8 @@ use Rattle.theory.specs.Parts.{length-part}
 use Rattle.two_adic_solver.proofs.elimination.clear_column.Tie as tie
 
 abbrev Inv-loop : tie.InvT-loop
-Inv-loop matrix₀ right₀ used columns column pivot bitwidth entry twos v start count row₀ matrix right row = Cleared bitwidth columns column pivot used matrix₀ right₀ matrix right row
+Inv-loop matrix₀ right₀ used columns column pivot bitwidth entry twos v start count row₀ matrix right row = Cleared bitwidth columns column pivot used
+    matrix₀ right₀ matrix right row
 
 abbrev μ-loop : tie.MeasureT-loop
 μ-loop matrix₀ right₀ used columns column pivot bitwidth entry twos v start count row₀ matrix right row = length right₀ - row
@@ -21,12 +22,26 @@ clear-column-spec =
     (tie.spec
     Inv-loop
     μ-loop
-    (λ c. let s = c .before .before .before in let l : s .args .pivot * s .args .columns + s .args .column < length (s .args .matrix .now) = place-lt (length (s .args .right .now)) (s .args .columns) _ (s .pre .0 .0) (s .args .pivot) (s .args .column) (s .pre .0 .3) (s .pre .0 .2) in search needs)
-    (λ c. let s = c .before .before .before in let l : s .args .pivot * s .args .columns + s .args .column < length (s .args .matrix .now) = place-lt (length (s .args .right .now)) (s .args .columns) _ (s .pre .0 .0) (s .args .pivot) (s .args .column) (s .pre .0 .3) (s .pre .0 .2) in search needs)
-    (λ c. let s = c .before .before .before in let l : s .args .pivot * s .args .columns + s .args .column < length (s .args .matrix .now) = place-lt (length (s .args .right .now)) (s .args .columns) _ (s .pre .0 .0) (s .args .pivot) (s .args .column) (s .pre .0 .3) (s .pre .0 .2) in search needs)
-    (λ c. let s = c .before .before .before .before in let l : s .args .pivot * s .args .columns + s .args .column < length (s .args .matrix .now) = place-lt (length (s .args .right .now)) (s .args .columns) _ (s .pre .0 .0) (s .args .pivot) (s .args .column) (s .pre .0 .3) (s .pre .0 .2) in l)
+    (λ c.
+    let s = c .before .before .before in
+    let l : s .args .pivot * s .args .columns + s .args .column < length (s .args .matrix .now) = place-lt (length (s .args .right .now))
+    (s .args .columns) _ (s .pre .0 .0) (s .args .pivot) (s .args .column) (s .pre .0 .3) (s .pre .0 .2) in search needs)
+    (λ c.
+    let s = c .before .before .before in
+    let l : s .args .pivot * s .args .columns + s .args .column < length (s .args .matrix .now) = place-lt (length (s .args .right .now))
+    (s .args .columns) _ (s .pre .0 .0) (s .args .pivot) (s .args .column) (s .pre .0 .3) (s .pre .0 .2) in search needs)
+    (λ c.
+    let s = c .before .before .before in
+    let l : s .args .pivot * s .args .columns + s .args .column < length (s .args .matrix .now) = place-lt (length (s .args .right .now))
+    (s .args .columns) _ (s .pre .0 .0) (s .args .pivot) (s .args .column) (s .pre .0 .3) (s .pre .0 .2) in search needs)
+    (λ c.
+    let s = c .before .before .before .before in
+    let l : s .args .pivot * s .args .columns + s .args .column < length (s .args .matrix .now) = place-lt (length (s .args .right .now))
+    (s .args .columns) _ (s .pre .0 .0) (s .args .pivot) (s .args .column) (s .pre .0 .3) (s .pre .0 .2) in l)
     (λ c κs. search needs)
-    (λ c κs. let s = c .before .before .before .before .before in rw (c .height .ensures) (s .pre .1 .1, s .pre .1 .2, twosIn-left-odd (s .args .bitwidth) _ (s .pre .1 .1)))
+    (λ c κs.
+    let s = c .before .before .before .before .before in
+    rw (c .height .ensures) (s .pre .1 .1, s .pre .1 .2, twosIn-left-odd (s .args .bitwidth) _ (s .pre .1 .1)))
     (λ c.
     let s = c .before .before .before .before .before .before in
     let f : s .args .pivot * s .args .columns + s .args .column + (s .args .columns - s .args .column) ≤ length (s .args .matrix .now) =
@@ -86,11 +101,17 @@ clear-column-spec =
         omega (arith, i .same-right, s .pre .0 .3),
         c .before .before .before .loop-test .taken,
       ),
-      (rw (c .before .before .before .before .before .before .before .before .before .height .ensures) (s .pre .1 .1), s .pre .1 .2, omega (arith, n, l, s .pre .0 .2)),
+      (
+        rw (c .before .before .before .before .before .before .before .before .before .height .ensures) (s .pre .1 .1),
+        s .pre .1 .2,
+        omega
+            (arith, n, l, s .pre .0 .2),
+      ),
     ))
     (λ c. search needs) (λ c. search needs)
     (λ c.
-    let s = c .before .before .before .before .before .before .before .before .before .before .before .before .before .before .before .before .before .before .before in
+    let s = c .before .before .before .before .before .before .before .before .before .before .before .before .before .before .before .before .before
+    .before .before in
     let f : s .args .pivot * s .args .columns + s .args .column + (s .args .columns - s .args .column) ≤ length (s .args .matrix .now) =
     row-to-end (length (s .args .right .now)) (s .args .columns) _ (s .pre .0 .0) (s .args .pivot) (s .args .column) (s .pre .0 .3) (s .pre .0 .2) in
     let a = s .args in
@@ -110,5 +131,6 @@ clear-column-spec =
     (λ c. c .before .loop .inv .same-right)
     (λ c.
     let b = c .before in
-    cleared-done _ _ _ _ _ _ _ (c .before .before .before .before .before .before .before .before .before .before .before .pre .0 .3) (b .loop .matrix) (b .loop .right) (b .loop .row)
+    cleared-done _ _ _ _ _ _ _ (c .before .before .before .before .before .before .before .before .before .before .before .pre .0 .3)
+    (b .loop .matrix) (b .loop .right) (b .loop .row)
     (b .loop .inv) (c .loop-test .left)))

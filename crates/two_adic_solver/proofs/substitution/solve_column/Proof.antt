@@ -15,12 +15,37 @@ pub solve-column-spec : {M : Type 1} → statement M
 solve-column-spec =
     tie.close
     (tie.spec
-    (λ c. let s = c .before .before .before in let l : s .args .pivot * s .args .columns + s .args .column < length (s .args .matrix .now) = place-lt (length (s .args .right .now)) (s .args .columns) _ (s .pre .0 .0) (s .args .pivot) (s .args .column) (s .pre .0 .3) (s .pre .0 .2) in search needs)
-    (λ c. let s = c .before .before .before in let l : s .args .pivot * s .args .columns + s .args .column < length (s .args .matrix .now) = place-lt (length (s .args .right .now)) (s .args .columns) _ (s .pre .0 .0) (s .args .pivot) (s .args .column) (s .pre .0 .3) (s .pre .0 .2) in search needs)
-    (λ c. let s = c .before .before .before in let l : s .args .pivot * s .args .columns + s .args .column < length (s .args .matrix .now) = place-lt (length (s .args .right .now)) (s .args .columns) _ (s .pre .0 .0) (s .args .pivot) (s .args .column) (s .pre .0 .3) (s .pre .0 .2) in search needs)
-    (λ c. let s = c .before .before .before .before in let l : s .args .pivot * s .args .columns + s .args .column < length (s .args .matrix .now) = place-lt (length (s .args .right .now)) (s .args .columns) _ (s .pre .0 .0) (s .args .pivot) (s .args .column) (s .pre .0 .3) (s .pre .0 .2) in l)
+    (λ c.
+    let s = c .before .before .before in
+    let l : s .args .pivot * s .args .columns + s .args .column < length (s .args .matrix .now) = place-lt (length (s .args .right .now))
+    (s .args .columns) _ (s .pre .0 .0) (s .args .pivot) (s .args .column) (s .pre .0 .3) (s .pre .0 .2) in search needs)
+    (λ c.
+    let s = c .before .before .before in
+    let l : s .args .pivot * s .args .columns + s .args .column < length (s .args .matrix .now) = place-lt (length (s .args .right .now))
+    (s .args .columns) _ (s .pre .0 .0) (s .args .pivot) (s .args .column) (s .pre .0 .3) (s .pre .0 .2) in search needs)
+    (λ c.
+    let s = c .before .before .before in
+    let l : s .args .pivot * s .args .columns + s .args .column < length (s .args .matrix .now) = place-lt (length (s .args .right .now))
+    (s .args .columns) _ (s .pre .0 .0) (s .args .pivot) (s .args .column) (s .pre .0 .3) (s .pre .0 .2) in search needs)
+    (λ c.
+    let s = c .before .before .before .before in
+    let l : s .args .pivot * s .args .columns + s .args .column < length (s .args .matrix .now) = place-lt (length (s .args .right .now))
+    (s .args .columns) _ (s .pre .0 .0) (s .args .pivot) (s .args .column) (s .pre .0 .3) (s .pre .0 .2) in l)
     (λ c κs. search needs) (λ c κs. search needs) (λ c κs. search needs) (λ c. search needs)
-    (λ c. let s = c .before .before .before .before .before .before .before .before .before in let a = s .args in let p = s .pre in let k = c .before .before .rest-of in let t = c .before .before .before .before .height in λ st h e. solved-fails _ _ _ st _ _ h (a .answer .now) (a .pivot) (a .column) (p .0 .3) (p .0 .2) e (t .result) (k .result) (t .ensures) (k .ensures) (λ z. c .if1 .taken (sym (sym (ap (bitAnd (k .result)) (c .before .bitmask .ensures) ∙ masked-low (k .result) (t .result) (omega (arith, t .ensures, s .pre .1 .1, s .pre .1 .2)))) ∙ z)) _)
-    (λ c κs. let s = c .before .before .before .before .before .before .before .before .before in rw (c .before .before .before .before .height .ensures) (s .pre .1 .2, s .pre .1 .1, twosIn-left-odd (s .args .bitwidth) _ (s .pre .1 .2)))
+    (λ c.
+    let s = c .before .before .before .before .before .before .before .before .before in let a = s .args in let p = s .pre in
+    let k = c .before .before .rest-of in let t = c .before .before .before .before .height in
+    λ st h e. solved-fails _ _ _ st _ _ h (a .answer .now) (a .pivot) (a .column) (p .0 .3) (p .0 .2) e (t .result) (k .result) (t .ensures)
+    (k .ensures) (λ z. c .if1 .taken (sym (sym (ap (bitAnd (k .result)) (c .before .bitmask .ensures) ∙ masked-low (k .result) (t .result)
+    (omega (arith, t .ensures, s .pre .1 .1, s .pre .1 .2)))) ∙ z)) _)
+    (λ c κs.
+    let s = c .before .before .before .before .before .before .before .before .before in
+    rw (c .before .before .before .before .height .ensures) (s .pre .1 .2, s .pre .1 .1, twosIn-left-odd (s .args .bitwidth) _ (s .pre .1 .2)))
     (λ c κs. search needs) (λ c. search needs) (λ c. search needs) (λ c. search needs)
-    (λ c. let s = c .before .before .before .before .before .before .before .before .before .before .before in let a = s .args in let p = s .pre in let k = c .before .before .before .before .rest-of in let t = c .before .before .before .before .before .before .height in λ st h e. solved-passes _ _ _ st _ _ h (a .answer .now) (a .pivot) (a .column) (p .0 .3) (p .0 .2) e (t .result) (k .result) (t .ensures) (k .ensures) ((sym (ap (bitAnd (k .result)) (c .before .before .before .bitmask .ensures) ∙ masked-low (k .result) (t .result) (omega (arith, t .ensures, s .pre .1 .1, s .pre .1 .2)))) ∙ c .before .before .if1 .left) (c .before .pivot-inverse .result) (c .multiplier .result) (c .before .pivot-inverse .ensures) (c .multiplier .ensures)))
+    (λ c.
+    let s = c .before .before .before .before .before .before .before .before .before .before .before in let a = s .args in let p = s .pre in
+    let k = c .before .before .before .before .rest-of in let t = c .before .before .before .before .before .before .height in
+    λ st h e. solved-passes _ _ _ st _ _ h (a .answer .now) (a .pivot) (a .column) (p .0 .3) (p .0 .2) e (t .result) (k .result) (t .ensures)
+    (k .ensures) ((sym (ap (bitAnd (k .result)) (c .before .before .before .bitmask .ensures) ∙ masked-low (k .result) (t .result)
+    (omega (arith, t .ensures, s .pre .1 .1, s .pre .1 .2)))) ∙ c .before .before .if1 .left) (c .before .pivot-inverse .result)
+    (c .multiplier .result) (c .before .pivot-inverse .ensures) (c .multiplier .ensures)))

@@ -22,13 +22,27 @@ substitute-spec =
     Inv-loop
     μ-loop
     (λ c κs. search needs)
-    (λ c. let s = c .before .before .before .before .before .before .before .before in substituting-start _ _ _ _ _ _ _ (c .before .before .clear .ensures) (s .pre .1 .0 .0))
+    (λ c.
+    let s = c .before .before .before .before .before .before .before .before in
+    substituting-start _ _ _ _ _ _ _ (c .before .before .clear .ensures) (s .pre .1 .0 .0))
     (λ c. search needs) (λ c. search needs)
-    (λ c. let s = c .before .before .before .before .before .before .before .before .before .before .before .before in let b = c .before .before .before in omega (arith, s .pre .0 .2, b .loop .inv .within, c .before .before .loop-test .taken))
-    (λ c κs. let s = c .before .before .before .before .before .before .before .before .before .before .before .before in let b = c .before .before .before in let l : b .loop .column - 1 < s .args .columns = omega (arith, b .loop .inv .within, c .before .before .loop-test .taken) in let q = s .pre .1 .1 (b .loop .column - 1) l in ((s .pre .0 .0, s .pre .0 .1, l, q .0), (b .loop .inv .same, s .pre .1 .0 .1, q .1)))
+    (λ c.
+    let s = c .before .before .before .before .before .before .before .before .before .before .before .before in let b = c .before .before .before in
+    omega (arith, s .pre .0 .2, b .loop .inv .within, c .before .before .loop-test .taken))
+    (λ c κs.
+    let s = c .before .before .before .before .before .before .before .before .before .before .before .before in let b = c .before .before .before in
+    let l : b .loop .column - 1 < s .args .columns = omega (arith, b .loop .inv .within, c .before .before .loop-test .taken) in
+    let q = s .pre .1 .1 (b .loop .column - 1) l in ((s .pre .0 .0, s .pre .0 .1, l, q .0), (b .loop .inv .same, s .pre .1 .0 .1, q .1)))
     (λ c. search needs)
-    (λ c. let b = c .before .before .before .before .before .before .before in substituting-fails _ _ _ _ _ (b .loop .answer) _ (b .loop .column) (c .before .before .before .before .before .before .loop-test .taken) (b .loop .inv) (λ st h e. subst (Solved _ _ st _ _ _) (not-true _ (c .if1 .taken)) (c .before .before .before .solve-column .ensures st h e)))
+    (λ c.
+    let b = c .before .before .before .before .before .before .before in
+    substituting-fails _ _ _ _ _ (b .loop .answer) _ (b .loop .column) (c .before .before .before .before .before .before .loop-test .taken)
+    (b .loop .inv) (λ st h e. subst (Solved _ _ st _ _ _) (not-true _ (c .if1 .taken)) (c .before .before .before .solve-column .ensures st h e)))
     (λ c. omega (arith, c .before .before .before .before .before .before .loop-test .taken))
-    (λ c. let b = c .before .before .before .before .before .before .before in substituting-step _ _ _ _ _ (b .loop .answer) _ (b .loop .column) (c .before .before .before .before .before .before .loop-test .taken) (b .loop .inv) (omega arith) (λ st h e. subst (Solved _ _ st _ _ _) (not-false _ (c .if1 .left)) (c .before .before .before .solve-column .ensures st h e)))
+    (λ c.
+    let b = c .before .before .before .before .before .before .before in
+    substituting-step _ _ _ _ _ (b .loop .answer) _ (b .loop .column) (c .before .before .before .before .before .before .loop-test .taken)
+    (b .loop .inv) (omega arith) (λ st h e. subst (Solved _ _ st _ _ _) (not-false _ (c .if1 .left))
+    (c .before .before .before .solve-column .ensures st h e)))
     (λ c. search needs)
     (λ c. let b = c .before in substituting-done _ _ _ _ _ (b .loop .answer) (b .loop .column) (b .loop .inv) (c .loop-test .left)))

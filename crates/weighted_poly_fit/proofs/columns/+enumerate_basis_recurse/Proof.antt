@@ -36,7 +36,8 @@ enumerate-basis-recurse-below t =
     enumerate-basis-recurse.Pre
 
 abbrev enumerate-basis-recurse-Inv-loop : enumerate-basis-recurse-lts.InvT-loop
-enumerate-basis-recurse-Inv-loop table₀ at current₀ degrees left place highest next₀ e₀ table current next e = Steps table₀ at current₀ degrees left place highest table current next e
+enumerate-basis-recurse-Inv-loop table₀ at current₀ degrees left place highest next₀ e₀ table current next e = Steps table₀ at current₀ degrees left
+    place highest table current next e
 
 abbrev enumerate-basis-recurse-μ-loop : enumerate-basis-recurse-lts.MeasureT-loop
 enumerate-basis-recurse-μ-loop table₀ at current₀ degrees left place highest next₀ e₀ table current next e = highest + 1 - e
@@ -57,15 +58,29 @@ pub +enumerate-basis-recurse-spec : {M : Type 1} → statement M
     enumerate-basis-recurse-μ-loop
     (λ c κs.
     let s = c .before .before .before .before .before .before .before in
-    omega (arith, s .pre .1 .1, ap length (listing-last (s .args .table .now) (s .args .at) (s .args .current .now) (s .args .degrees .now) (c .before .before .before .if1 .taken) (s .args .left) (c .before .before .if2 .taken))))
+    omega (
+      arith,
+      s .pre .1 .1,
+      ap length (listing-last (s .args .table .now) (s .args .at) (s .args .current .now) (s .args .degrees .now)
+          (c .before .before .before .if1 .taken) (s .args .left) (c .before .before .if2 .taken)),
+    ))
     (λ c.
     let s = c .before .before .before .before .before .before .before .before .before .before in
-    omega (arith, s .pre .1 .1, ap length (listing-last (s .args .table .now) (s .args .at) (s .args .current .now) (s .args .degrees .now) (c .before .before .before .before .before .before .if1 .taken) (s .args .left) (c .before .before .before .before .before .if2 .taken)), s .good .0 .0))
+    omega (
+      arith,
+      s .pre .1 .1,
+      ap length (listing-last (s .args .table .now) (s .args .at) (s .args .current .now) (s .args .degrees .now)
+          (c .before .before .before .before .before .before .if1 .taken) (s .args .left)
+          (c .before .before .before .before .before .if2 .taken)),
+      s .good .0 .0,
+    ))
     (λ c. c .before .before .write-list .kept .0)
     (λ c. search needs)
     (λ c.
     let s = c .before .before .before .before .before .before .before .before .before .before in
-    listed-last (s .args .table .now) (s .args .at) (s .args .current .now) (s .args .degrees .now) (c .before .before .before .before .before .before .if1 .taken) (s .args .left) (c .before .before .before .before .before .if2 .taken) _ (c .before .before .write-list .ensures))
+    listed-last (s .args .table .now) (s .args .at) (s .args .current .now) (s .args .degrees .now)
+    (c .before .before .before .before .before .before .if1 .taken) (s .args .left) (c .before .before .before .before .before .if2 .taken) _
+    (c .before .before .write-list .ensures))
     (λ c.
     let s = c .before .before .before .before .before in
     listed-nothing (s .args .table .now) (s .args .at) (s .args .current .now) (s .args .degrees .now) (c .before .if1 .taken) (s .args .left) (c .if2 .left))
@@ -75,7 +90,14 @@ pub +enumerate-basis-recurse-spec : {M : Type 1} → statement M
     (λ c κs. search needs)
     (λ c.
     let s = c .before .before .before .before .before .before in
-    steps-start (record { some = omega (arith, c .before .before .if1 .left); fits = s .pre .1 .0; spot = refl; top = c .lesser .ensures; room = s .pre .1 .1 }))
+    steps-start (record {
+      some = omega
+          (arith, c .before .before .if1 .left);
+      fits = s .pre .1 .0;
+      spot = refl;
+      top = c .lesser .ensures;
+      room = s .pre .1 .1;
+    }))
     (λ c. record { fits = omega (arith, c .before .loop .inv .entry .top, c .before .before .before .shared-slice-known2 .given 0) })
     (λ c. steps-place (c .before .loop .inv))
     (λ c. search needs)
@@ -85,11 +107,22 @@ pub +enumerate-basis-recurse-spec : {M : Type 1} → statement M
     (λ c κs.
     let s = c .before .before .before .before .before .before .before .before .before .before .before in
     let i = c .before .before .before .before .loop .inv in
-    let h = c .before .before .before .loop-test .taken in
-    (omega (arith, s .pre .0, ap length (rest-whole (s .args .degrees .now)), length-drop 1 (s .args .degrees .now), i .entry .some), (steps-fits i h, steps-room i h)))
-    (λ c. omega (arith, c .before .before .before .before .before .before .before .before .before .loop .inv .entry .top, c .before .before .before .before .before .before .before .before .before .before .before .shared-slice-known2 .given 0))
+    let h = c .before .before .before .loop-test .taken in (
+      omega (arith, s .pre .0, ap length (rest-whole (s .args .degrees .now)), length-drop 1 (s .args .degrees .now), i .entry .some),
+      (steps-fits i h, steps-room i h),
+    ))
+    (λ c.
+    omega (
+      arith,
+      c .before .before .before .before .before .before .before .before .before .loop .inv .entry .top,
+      c .before .before .before .before
+          .before .before .before .before .before .before .before .shared-slice-known2 .given 0,
+    ))
     (λ c. search needs)
-    (λ c. steps-next (c .before .before .before .before .before .before .before .before .before .loop .inv) (c .before .before .before .before .before .before .before .before .loop-test .taken) _ _ _ (c .before .before .before .before .enumerate-basis-recurse .kept .1 .1 .0) (c .before .before .before .before .enumerate-basis-recurse .ensures))
+    (λ c.
+    steps-next (c .before .before .before .before .before .before .before .before .before .loop .inv)
+    (c .before .before .before .before .before .before .before .before .loop-test .taken) _ _ _
+    (c .before .before .before .before .enumerate-basis-recurse .kept .1 .1 .0) (c .before .before .before .before .enumerate-basis-recurse .ensures))
     (λ c. steps-same (c .before .loop .inv))
     (λ c. c .before .loop .inv .same)
     (λ c. steps-done (c .before .loop .inv) (c .loop-test .left))
