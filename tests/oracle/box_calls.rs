@@ -5,8 +5,10 @@ use crate::boxes::{
     coefficients, every_set_of_causes, filled, large_box, left, length, lengths, lent, low_bits,
     most_cells, random_box, settings, spoil, twos_of_cells, NUMBERS,
 };
+use crate::bytes::{beside, bytes_of, words_of, LIMIT};
 use crate::definitions::{falling, value};
 use crate::group::{Answer, Case, Group, Lent, Source, UNSET};
+use crate::library_boxes::bytes as byte_calls;
 use crate::library_boxes::poly as ours;
 use crate::random::Random;
 use crate::reference as rust;
@@ -16,7 +18,7 @@ use crate::settings::Settings;
 pub const GROUPS: [(&Group, bool); 4] = [
     (&IS_VALID, cfg!(cobra_box_is_valid)),
     (&SAME, cfg!(cobra_box_same)),
-    (&VALUE, cfg!(cobra_box_value)),
+    (&VALUE, cfg!(all(cobra_box_value, cobra_value))),
     (&SUM, cfg!(cobra_box_sum)),
 ];
 
@@ -190,16 +192,41 @@ const VALUE: Group = Group {
         };
         let outside = cells.outside() + support.outside() + point.outside();
         let said = with_value(answer, value, cells.content(), support.content());
-        said.words("point", point.content()).outside(outside)
+        let above = matches!(value_number(c), 0 | 9) && s.cells() > Some(LIMIT);
+        let large = above.then(|| value_left(c, 8, 0));
+        let words = said.words("point", point.content()).outside(outside);
+        beside(words, value_by_bytes(c), large)
     },
     expected: |c| {
         let (s, (cells, point)) = (settings(c), value_tables(c));
         let number = value_number(c);
         let value = if number == 0 { value(&cells, &s, &point, falling) } else { 0 };
-        let said = with_value(number, value, cells, s.support.to_vec());
-        (Source::Document, said.words("point", point).outside(0))
+        (Source::Document, value_left(c, number, value))
     },
 };
+
+/// What a call has to leave behind that says this.
+fn value_left(c: &Case, number: u32, value: u64) -> Answer {
+    let (s, (cells, point)) = (settings(c), value_tables(c));
+    let said = with_value(number, value, cells, s.support.to_vec());
+    said.words("point", point).outside(0)
+}
+
+/// The call on bytes.
+fn value_by_bytes(c: &Case) -> Answer {
+    let (s, (cells, point), mut value) = (settings(c), value_tables(c), UNSET);
+    let (mut cells, mut support, mut point) =
+        (bytes_of(&cells), bytes_of(s.support), bytes_of(&point));
+    let (n, k, m, count) = (cells.len(), support.len(), point.len(), s.support.len() as u64);
+    let (cell, on, at) = (cells.at(), support.at(), point.at());
+    let (total, width, degree) = (s.total, s.width, s.degree);
+    let answer = unsafe {
+        byte_calls::cobra_value(cell, n, on, k, count, total, width, degree, at, m, &mut value)
+    };
+    let outside = cells.outside() + support.outside() + point.outside();
+    let said = with_value(answer, value, words_of(&cells), words_of(&support));
+    said.words("point", words_of(&point)).outside(outside)
+}
 
 fn value_tables(c: &Case) -> (Vec<u64>, Vec<u64>) {
     let ([cells, _], coordinates) = (lengths::<2>(c), settings(c).support.len());

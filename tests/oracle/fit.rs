@@ -7,19 +7,24 @@ use crate::boxes::{
     every_set_of_causes, filled, length, lent, low_bits, settings, shape, spoil, support, width,
     NUMBERS,
 };
+use crate::bytes::{beside, bytes_of, words_of, LIMIT};
 use crate::group::{Answer, Case, Group, Lent, Source, UNSET};
+use crate::library_boxes::bytes as byte_calls;
 use crate::library_boxes::fit as ours;
 use crate::random::Random;
 use crate::reference as rust;
 use crate::settings::{columns, within, Settings};
 
-/// Each group with whether the library has its call.
+/// The call on u64 and the one on bytes.
+const HAS_CALLS: bool = cfg!(all(cobra_recover_weighted_poly, cobra_fit));
+
+/// Each group with whether the library has its calls.
 pub const GROUPS: [(&Group, bool); 5] = [
-    (&EVERY_SMALL_FIT, cfg!(cobra_recover_weighted_poly)),
-    (&FITS, cfg!(cobra_recover_weighted_poly)),
-    (&ANY_TARGETS, cfg!(cobra_recover_weighted_poly)),
-    (&LARGE_FITS, cfg!(cobra_recover_weighted_poly)),
-    (&REFUSED, cfg!(cobra_recover_weighted_poly)),
+    (&EVERY_SMALL_FIT, HAS_CALLS),
+    (&FITS, HAS_CALLS),
+    (&ANY_TARGETS, HAS_CALLS),
+    (&LARGE_FITS, HAS_CALLS),
+    (&REFUSED, HAS_CALLS),
 ];
 
 const NAMES: &[&str] = &[
@@ -270,7 +275,52 @@ fn judged(c: &Case) -> Answer {
     };
     let all = [&*weights, targets, matrix, right, out];
     let outside = support.outside() + all.iter().map(|t| t.outside()).sum::<usize>();
-    left(number, used, all.map(|t| t.content()), &support.content()).outside(outside)
+    let contents = all.map(|t| t.content());
+    let scratch = [contents[2].clone(), contents[3].clone()];
+    let words = left(number, used, contents, &support.content()).outside(outside);
+    if scratch_spoilt(c) {
+        return words;
+    }
+    let (bytes, large) = (by_bytes(c, &scratch), above(c).then(|| turned_down(c, &scratch)));
+    beside(words, bytes, large)
+}
+
+/// The refusal is for the scratch tables, which the call on bytes does not have.
+fn scratch_spoilt(c: &Case) -> bool {
+    let ((rows, _, cells), [weights, targets, _, _, out]) = (sizes(c), tables(c));
+    let exact = [(weights.len(), rows), (targets.len(), rows), (out.len(), cells)];
+    number(c) == 9 && exact.iter().all(|&(len, exact)| exact == Some(len as u64))
+}
+
+/// The call on bytes says 8 where the other goes on.
+fn above(c: &Case) -> bool {
+    matches!(number(c), 0 | 9) && sizes(c).1 > Some(LIMIT)
+}
+
+fn turned_down(c: &Case, scratch: &[Vec<u64>; 2]) -> Answer {
+    let ([weights, targets, _, _, out], [matrix, right]) = (tables(c), scratch.clone());
+    left(8, 0, [weights, targets, matrix, right, out], settings(c).support).outside(0)
+}
+
+/// The call on bytes; the scratch tables of its answer are those of the call on u64.
+fn by_bytes(c: &Case, scratch: &[Vec<u64>; 2]) -> Answer {
+    let (s, mut used) = (settings(c), UNSET);
+    let [weights, targets, _, _, out] = &mut tables(c).map(|t| bytes_of(&t));
+    let mut support = bytes_of(s.support);
+    let (w, t, o, k) = (weights.len(), targets.len(), out.len(), support.len());
+    let (w_at, t_at, o_at, s_at) = (weights.at(), targets.at(), out.at(), support.at());
+    let (count, total, width) = (s.support.len() as u64, s.total, s.width);
+    let (max, grid) = (c.u8(5), s.degree);
+    let number = unsafe {
+        byte_calls::cobra_fit(
+            w_at, w, t_at, t, s_at, k, count, total, width, max, grid, o_at, o, &mut used,
+        )
+    };
+    let all = [&*weights, targets, out];
+    let outside = support.outside() + all.iter().map(|t| t.outside()).sum::<usize>();
+    let ([weights, targets, out], [matrix, right]) = (all.map(|t| words_of(t)), scratch.clone());
+    let tables = [weights, targets, matrix, right, out];
+    left(number, used, tables, &words_of(&support)).outside(outside)
 }
 
 /// The Rust has 1, 2, 3, 5 and 10; 7, 8 and 9 are added and never sent to it.

@@ -99,6 +99,27 @@ pub mod systems {
     }
 }
 
+/// The database's calls, on tables of bytes.
+pub mod bytes {
+    calls! {
+        cobra_recover(
+            values: *const u8, values_len: usize, support: *const u8, support_len: usize,
+            count: u64, total: u32, width: u32, degree: u8, out: *mut u8, out_len: usize,
+        );
+        cobra_value(
+            coeffs: *const u8, coeffs_len: usize, support: *const u8, support_len: usize,
+            count: u64, total: u32, width: u32, degree: u8, point: *const u8, point_len: usize,
+            value: *mut u64,
+        );
+        cobra_fit(
+            weights: *const u8, weights_len: usize, targets: *const u8, targets_len: usize,
+            support: *const u8, support_len: usize, count: u64, total: u32, width: u32,
+            max_degree: u8, grid_degree: u8, out: *mut u8, out_len: usize,
+            degree_used: *mut u64,
+        );
+    }
+}
+
 pub mod fit {
     calls! {
         cobra_recover_weighted_poly(

@@ -3,6 +3,7 @@
 
 mod box_calls;
 mod boxes;
+mod bytes;
 mod conversions;
 mod core;
 mod definitions;

@@ -1,22 +1,27 @@
 //! Recovery, held to the Rust's reference.
 
 use crate::boxes::{
-    called, coefficients, every_set_of_causes, in_and_out, large_box, lengths, low_bits,
+    called, coefficients, every_set_of_causes, in_and_out, large_box, left, lengths, low_bits,
     most_cells, must_leave, on_grid, random_box, settings, spoil, twos_of_cells, Basis, CAUSES,
     NUMBERS,
 };
+use crate::bytes::{beside, bytes_of, words_of, LIMIT};
 use crate::group::{Answer, Case, Group, Source};
+use crate::library_boxes::bytes as byte_calls;
 use crate::library_boxes::recovery as ours;
 use crate::random::Random;
 use crate::reference as rust;
 
-/// Each group with whether the library has its call.
+/// The call on u64 and the one on bytes.
+const HAS_CALLS: bool = cfg!(all(cobra_recover_multivar_poly, cobra_recover));
+
+/// Each group with whether the library has its calls.
 pub const GROUPS: [(&Group, bool); 5] = [
-    (&EVERY_SMALL_GRID, cfg!(cobra_recover_multivar_poly)),
-    (&POLYNOMIALS, cfg!(cobra_recover_multivar_poly)),
-    (&EDGES, cfg!(cobra_recover_multivar_poly)),
-    (&REFUSED, cfg!(cobra_recover_multivar_poly)),
-    (&LARGE_BOXES, cfg!(cobra_recover_multivar_poly)),
+    (&EVERY_SMALL_GRID, HAS_CALLS),
+    (&POLYNOMIALS, HAS_CALLS),
+    (&EDGES, HAS_CALLS),
+    (&REFUSED, HAS_CALLS),
+    (&LARGE_BOXES, HAS_CALLS),
 ];
 
 const NAMES: &[&str] =
@@ -42,7 +47,7 @@ const EVERY_SMALL_GRID: Group = Group {
     },
     random: None,
     cost: 1,
-    judged: |c| called(c, ours::cobra_recover_multivar_poly),
+    judged,
     expected,
 };
 
@@ -62,7 +67,7 @@ const POLYNOMIALS: Group = Group {
         c
     }),
     cost: 1,
-    judged: |c| called(c, ours::cobra_recover_multivar_poly),
+    judged,
     expected,
 };
 
@@ -79,7 +84,7 @@ const EDGES: Group = Group {
         c
     }),
     cost: 1,
-    judged: |c| called(c, ours::cobra_recover_multivar_poly),
+    judged,
     expected,
 };
 
@@ -106,7 +111,7 @@ const REFUSED: Group = Group {
         c
     }),
     cost: 4,
-    judged: |c| called(c, ours::cobra_recover_multivar_poly),
+    judged,
     expected,
 };
 
@@ -131,7 +136,7 @@ const LARGE_BOXES: Group = Group {
         c
     }),
     cost: 500,
-    judged: |c| called(c, ours::cobra_recover_multivar_poly),
+    judged,
     expected,
 };
 
@@ -191,6 +196,23 @@ fn noisy(mut values: Vec<u64>, width: u64, r: &mut Random) -> Vec<u64> {
 /// The refusal before a difference is looked at.
 fn number(c: &Case) -> u32 {
     settings(c).refusal(true, &lengths::<2>(c)).unwrap_or(0)
+}
+
+/// The call on u64, with the call on bytes beside it.
+fn judged(c: &Case) -> Answer {
+    let (s, (values, out)) = (settings(c), in_and_out(c));
+    let (mut values, mut support) = (bytes_of(&values), bytes_of(s.support));
+    let mut lent = bytes_of(&out);
+    let (n, k, m, count) = (values.len(), support.len(), lent.len(), s.support.len() as u64);
+    let (from, on, to) = (values.at(), support.at(), lent.at());
+    let answer = unsafe {
+        byte_calls::cobra_recover(from, n, on, k, count, s.total, s.width, s.degree, to, m)
+    };
+    let outside = values.outside() + support.outside() + lent.outside();
+    let left = left(answer, words_of(&lent), words_of(&values), words_of(&support));
+    let above = matches!(number(c), 0 | 9) && s.cells() > Some(LIMIT);
+    let large = above.then(|| must_leave(c, 8, out));
+    beside(called(c, ours::cobra_recover_multivar_poly), left.outside(outside), large)
 }
 
 /// The Rust has 1 to 5 and judges the differences; 7, 8 and 9 are added and never sent to it.
