@@ -8,6 +8,7 @@ mod conversions;
 mod core;
 mod definitions;
 mod demand3;
+mod differences;
 mod fit;
 mod group;
 mod ir;
@@ -35,7 +36,7 @@ use std::process::exit;
 /// taken away here switches its groups off.
 fn groups() -> Vec<(&'static Group, bool)> {
     let mut groups = Vec::new();
-    groups.extend([&rows::CHECKED_ROWS].map(always));
+    groups.extend([&rows::CHECKED_ROWS, &differences::LISTED].map(always));
     groups.extend(definitions::GROUPS.map(always));
     groups.extend(leaves_arith::GROUPS.map(always));
     groups.extend(leaves_math::GROUPS.map(always));

@@ -1,12 +1,9 @@
 //! The references alone on document 01's checked rows, so that a stand-in that misleads the Rust is
-//! seen before anything is compared with it; and what the Rust itself says at listed differences of the
-//! solvers and the fit, where the references answer as the document does.
+//! seen before anything is compared with it.
 
 use crate::core::arith::bitmask;
-use crate::core::evaluator::Evaluator;
 use crate::group::{Answer, Case, Group, Source};
 use crate::ir::math_utils::degree_cap;
-use crate::passes::weighted_poly_fit::{recover_weighted_poly, solve_2adic, solve_2adic_fixed, WeightFn};
 use crate::reference as rust;
 use crate::settings::Settings;
 use std::sync::OnceLock;
@@ -45,8 +42,7 @@ fn one(width: u32, degree: u8) -> Settings<'static> {
 fn rows() -> &'static [Row] {
     static ROWS: OnceLock<Vec<Row>> = OnceLock::new();
     ROWS.get_or_init(|| {
-        let rows = [leaf_rows(), recovery_rows(), conversion_rows(), singleton_rows(), solving_rows()];
-        [rows.concat(), difference_rows()].concat()
+        [leaf_rows(), recovery_rows(), conversion_rows(), singleton_rows(), solving_rows()].concat()
     })
 }
 
@@ -164,22 +160,5 @@ fn solving_rows() -> Vec<Row> {
         ("solver, no columns", solve(&[], &[], 0, 8), vec![9]),
         ("four by four solver", solve4(2), vec![0, 1, 5, 1, 2]),
         ("four by four solver without an answer", solve4(4), vec![10]),
-    ]
-}
-
-/// docs/DIFFERENCES.md, solvers and fit: the Rust as it is.
-fn difference_rows() -> Vec<Row> {
-    let bare = solve_2adic(&mut [256], &mut [0], 1, 255, 8).expect("an answer");
-    let mut square = [[256, 0, 0, 0], [0, 1, 0, 0], [0, 0, 1, 0], [0, 0, 0, 1]];
-    let fixed = solve_2adic_fixed(&mut square, &mut [0; 4], 255, 8).expect("an answer");
-    // 256^8 rows wrap, and nothing is evaluated
-    let (target, weight): (_, WeightFn) = (Evaluator::new(|_| 0), Box::new(|_, _| 1));
-    let support: Vec<u32> = (0..8).collect();
-    let fit = recover_weighted_poly(&target, &weight, &support, 8, 8, 0, 255).into_answer();
-    let subcode = fit.err().map_or(0, u64::from);
-    vec![
-        ("the Rust's solver w 8, row 256 | 0, as it is", bare, vec![0]),
-        ("the Rust's four by four solver, an entry 256 at w 8", fixed.to_vec(), vec![0; 4]),
-        ("the Rust's fit, 256^8 rows", vec![subcode], vec![5]),
     ]
 }
