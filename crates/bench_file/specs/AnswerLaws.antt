@@ -1,19 +1,16 @@
 -- The lines of an answer, stored number by number.
-use mathlib.Core.Path.{_≡_, refl, sym, _∙_, ap, ap₂, subst}
-use mathlib.Core.Bool.{cond}
-use mathlib.Core.List.{List, [], _∷_, _++_, append-assoc, append-nil}
+use mathlib.Core.Path.{_≡_, refl, sym, _∙_, ap}
+use mathlib.Core.List.{List, [], _∷_, _++_, append-nil}
 use Prim.Native.Nat.{ℕ, zero, suc, _+_, _*_, _-_, _/_, _≤_, _<_}
 use mathlib.Core.Logic.{⊎-elim}
 use native.Mathlib.Nat.{div-lt-iff-lt-mul}
 use native.Mathlib.Omega.{arith}
 use borrow.Author.Tests.{le-leb, lt-leb}
-use lib.Dec.{leb}
 use lib.ListN.{length, drop, set, replicate, length-append, length-replicate}
 use lib.Seq.{sets}
 use Rattle.meaning.specs.Tables.{at}
 use Rattle.meaning.specs.Boxes.{digits}
 use Rattle.bench_file.specs.Text.{number, numbers, line}
-use Rattle.bench_file.specs.NumberLaws.{length-number}
 use Rattle.bench_file.specs.HeadLines.{numbers-append, lt-or-ge}
 use Rattle.bench_file.specs.Layout.{nonZeros, termLines, acceptedText, refusedText}
 use Rattle.bench_file.specs.Printed.{printed, printedSize, termText}

@@ -5,13 +5,13 @@ use mathlib.Core.Path.{_≡_, refl, sym, _∙_, ap, ap₂, subst}
 use mathlib.Core.Bool.{Bool, true, false, _&&_, cond}
 use mathlib.Core.List.{List, [], _∷_, _++_, append-assoc, append-nil}
 use Prim.Native.Nat.{ℕ, zero, suc, _+_, _*_, _-_, _/_, _%_, _^_, _≤_, _<_}
-use native.Mathlib.Nat.{div-add-mod', pow-succ', not-suc-le-zero, suc-ne-zero}
+use native.Mathlib.Nat.{pow-succ', suc-ne-zero}
 use native.Mathlib.Omega.{arith}
-use borrow.Author.Tests.{leb-true, ltb-true, eqb-true, eqb-false, le-leb, lt-ltb, eq-eqb, ne-eqb}
+use borrow.Author.Tests.{leb-true, ltb-true, eqb-true, le-leb, lt-ltb, ne-eqb}
 use lib.Dec.{leb, ltb, eqb}
-use lib.ListN.{length, take, drop}
+use lib.ListN.{length}
 use Rattle.bench_file.specs.Text.{shown, columns, number}
-use Rattle.bench_file.specs.Columns.{Reads, is-number, is-ill, withDigit, notZero, withColumn, andThen, withColumns}
+use Rattle.bench_file.specs.Columns.{withDigit, notZero, withColumn, andThen, withColumns}
 use Rattle.bench_file.specs.declared.number.Field.{Field}
 
 -- what one more digit makes

@@ -3,8 +3,8 @@ use mathlib.Core.Path.{_≡_, refl}
 use mathlib.Core.List.{List, [], _∷_, _++_}
 use Prim.Native.Nat.{ℕ, _^_, _-_}
 use lib.ListN.{replicate}
-use Rattle.bench_file.specs.Text.{columns, number, numbers, line}
-use Rattle.bench_file.specs.Layout.{Head, headText, valuesText, nonZeros, termLines, acceptedText, refusedText}
+use Rattle.bench_file.specs.Text.{number}
+use Rattle.bench_file.specs.Layout.{Head, headText, valuesText, acceptedText, refusedText}
 
 zero-text : number 0 ≡ replicate 20 32 ++ (48 ∷ [])
 unfolding number

@@ -1,14 +1,14 @@
 -- The ends of the first two lines.
-use mathlib.Core.Path.{_≡_, refl, sym, _∙_, ap, ap₂, subst}
+use mathlib.Core.Path.{_≡_, sym, _∙_, ap, subst}
 use mathlib.Core.List.{List, [], _∷_, _++_, append-assoc, append-nil}
-use Prim.Native.Nat.{ℕ, zero, suc, _+_, _^_, _≤_, _<_}
+use Prim.Native.Nat.{ℕ, _+_, _≤_, _<_}
 use native.Mathlib.Nat.{add-comm}
 use native.Mathlib.Omega.{arith}
-use lib.ListN.{length, take, drop, getD, length-append, length-take}
+use lib.ListN.{length, take, drop, length-take}
 use lib.Seq.{getD-take, take-add, drop-at}
 use Rattle.meaning.specs.Tables.{at}
-use Rattle.bench_file.specs.Text.{columns, number, numbers, line}
-use Rattle.bench_file.specs.Layout.{Head, Words, none, next, GoodHead, headText}
+use Rattle.bench_file.specs.Text.{columns, numbers, line}
+use Rattle.bench_file.specs.Layout.{Words, none, next, GoodHead, headText}
 use Rattle.bench_file.specs.Steps.{staged, headOf}
 use Rattle.bench_file.specs.HeadLines.{InHead}
 use Rattle.bench_file.specs.declared.reader.Stage.{Stage}

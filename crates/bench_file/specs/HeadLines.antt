@@ -1,22 +1,21 @@
 -- In the first two lines: unless the reader found them ill-formed, the bytes so far are the text of the numbers that it holds and of the columns of an
 -- open number.
-use mathlib.Core.Path.{_≡_, refl, sym, _∙_, ap, ap₂, subst}
-use mathlib.Core.Bool.{Bool, true, false, cond}
+use mathlib.Core.Path.{_≡_, refl, sym, _∙_, ap, subst}
+use mathlib.Core.Bool.{Bool, true, false}
 use mathlib.Core.List.{List, [], _∷_, _++_, append-assoc, append-nil}
 use mathlib.Core.Logic.{_⊎_, inl, inr, ⊎-elim}
-use Prim.Native.Nat.{ℕ, zero, suc, _+_, _*_, _/_, _%_, _^_, _≤_, _<_}
+use Prim.Native.Nat.{ℕ, _+_, _^_, _≤_, _<_}
 use native.Mathlib.Numerals.{add-one}
 use native.Mathlib.Omega.{arith}
 use borrow.Author.Tests.{ltb-true, ltb-false, eqb-true, eqb-false}
 use lib.Dec.{ltb, eqb}
-use lib.ListN.{length, take, drop, set, length-append, length-set, length-take}
+use lib.ListN.{length, take, set, length-append, length-set}
 use lib.Seq.{take-suc-set}
-use Rattle.meaning.specs.Tables.{at}
-use Rattle.bench_file.specs.Text.{columns, number, numbers, line}
+use Rattle.bench_file.specs.Text.{columns, number, numbers}
 use Rattle.bench_file.specs.Columns.{withDigit, withColumn}
 use Rattle.bench_file.specs.ColumnLaws.{digit-of, column-of, column-text, column-small, digit-text}
-use Rattle.bench_file.specs.Layout.{Head, Words, none, next, GoodHead, headText, valuesText}
-use Rattle.bench_file.specs.Steps.{reader, noneRead, staged, opened, withHead, headColumn, State, state, step, fed, headOf}
+use Rattle.bench_file.specs.Layout.{Words, none, next}
+use Rattle.bench_file.specs.Steps.{reader, opened, headColumn}
 use Rattle.bench_file.specs.StepLaws.{with-head-room, with-head-full, head-opens, head-opens-ill, head-closes, head-closes-ill}
 use Rattle.bench_file.specs.declared.number.Field.{Field}
 use Rattle.bench_file.specs.declared.reader.Stage.{Stage}

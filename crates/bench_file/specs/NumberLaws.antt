@@ -1,16 +1,16 @@
 -- The text of a number: 21 columns, which are read back as that number and as nothing else, and which can be filled from the right.
 use mathlib.Core.Path.{_≡_, refl, sym, _∙_, ap, ap₂, subst}
-use mathlib.Core.List.{List, [], _∷_, _++_, append-assoc, append-nil}
-use Prim.Native.Nat.{ℕ, zero, suc, _+_, _*_, _-_, _/_, _%_, _^_, _≤_, _<_}
+use mathlib.Core.List.{List, [], _∷_, _++_, append-assoc}
+use Prim.Native.Nat.{ℕ, zero, suc, _+_, _-_, _/_, _%_, _^_, _≤_, _<_}
 use native.Mathlib.Omega.{arith}
 use native.Mathlib.Numerals.{add-one}
-use lib.ListN.{length, take, drop, set, length-append, length-set, length-drop, length-take, getD, drop-of-length-le}
+use lib.ListN.{length, take, drop, set, length-append, length-set, length-take, drop-of-length-le}
 use native.Mathlib.Nat.{le-refl, not-suc-le-zero}
-use lib.Seq.{take-at, drop-at, drop-cons, getD-set-same, drop-set-lt, take-all, split-at, getD-at, getD-take}
+use lib.Seq.{take-at, drop-cons, getD-set-same, drop-set-lt, split-at, getD-at, getD-take}
 use Rattle.meaning.specs.Tables.{at}
 use Rattle.bench_file.specs.Text.{shown, columns, number}
 use Rattle.bench_file.specs.Columns.{Reads, is-number, is-ill, withDigit, withColumn, andThen, withColumns}
-use Rattle.bench_file.specs.ColumnLaws.{columns-shown, columns-text, columns-small, digit-shown, digit-text, digit-of, ill-is-no-number}
+use Rattle.bench_file.specs.ColumnLaws.{columns-shown, columns-text, digit-shown, digit-text, digit-of, ill-is-no-number}
 use Rattle.bench_file.specs.declared.number.Field.{Field}
 
 pub length-columns : (k n : ℕ) → length (columns k n) ≡ k

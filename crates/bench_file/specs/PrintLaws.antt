@@ -1,21 +1,20 @@
 -- Texts stored one after the other, and their lengths.
-use mathlib.Core.Path.{_≡_, refl, sym, _∙_, ap, ap₂, subst}
-use mathlib.Core.List.{List, [], _∷_, _++_, append-assoc, append-nil}
+use mathlib.Core.Path.{_≡_, refl, sym, _∙_, ap, ap₂}
+use mathlib.Core.List.{List, [], _∷_, _++_, append-assoc}
 use Prim.Native.Nat.{ℕ, zero, suc, _+_, _*_, _-_, _/_, _%_, _≤_, _<_}
 use native.Mathlib.Nat.{add-zero, suc-mul, add-comm}
 use native.Mathlib.Numerals.{add-one}
 use native.Mathlib.Omega.{arith}
-use lib.ListN.{length, take, drop, set, replicate, length-append, length-replicate, drop-of-length-le}
+use lib.ListN.{length, take, drop, set, replicate, length-append, drop-of-length-le}
 use lib.Dec.{eqb}
 use mathlib.Core.Bool.{cond}
 use borrow.Author.Tests.{eq-eqb}
 use Rattle.theory.specs.Parts.{part, put, length-part}
-use lib.Seq.{sets, sets-eq, length-sets, drop-cons, drop-drop}
+use lib.Seq.{sets, sets-eq, drop-cons, drop-drop}
 use Rattle.meaning.specs.Tables.{at}
 use Rattle.meaning.specs.Boxes.{digits}
 use Rattle.bench_file.specs.Text.{number, numbers, line}
 use Rattle.bench_file.specs.NumberLaws.{length-number}
-use Rattle.bench_file.specs.HeadLines.{numbers-append}
 use Rattle.bench_file.specs.Layout.{nonZeros, termLines, acceptedText, refusedText}
 use Rattle.bench_file.specs.Printed.{termText, oneTerm}
 

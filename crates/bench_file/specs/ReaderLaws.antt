@@ -2,26 +2,25 @@
 -- A text of the layout leads the reader to what it says (the runs), and what the reader holds is the text of the bytes that it was fed (its standing);
 -- where it found an ill-formed line no text of the layout can have been fed, since such a text would have led elsewhere.
 use mathlib.Core.Path.{_≡_, refl, sym, _∙_, ap, ap₂, subst}
-use mathlib.Core.Bool.{Bool, true, false, cond}
+use mathlib.Core.Bool.{Bool, true, false}
 use mathlib.Core.List.{List, [], _∷_, _++_, append-assoc, append-nil}
-use mathlib.Core.Logic.{_⊎_, inl, inr, ⊎-elim}
-use Prim.Native.Nat.{ℕ, zero, suc, _+_, _≤_, _<_, min}
+use mathlib.Core.Logic.{_⊎_, ⊎-elim}
+use Prim.Native.Nat.{ℕ, suc, _+_, _≤_, _<_, min}
 use native.Mathlib.Numerals.{add-one}
 use native.Mathlib.Omega.{arith}
-use lib.Dec.{ltb, eqb}
-use lib.ListN.{length, set, length-set}
+use lib.ListN.{length, set}
 use lib.Seq.{sets, set-out}
 use borrow.Author.Tests.{eq-eqb, ne-eqb, lt-ltb, le-ltb}
 use Rattle.bench_file.specs.Text.{columns, number}
 use Rattle.bench_file.specs.Columns.{withDigit, withColumn}
-use Rattle.bench_file.specs.Layout.{Head, Words, GoodHead, headText, valuesText, Content, Says, says-ill-head, says-ill-values, says-whole}
-use Rattle.bench_file.specs.Steps.{reader, noneRead, staged, valueByte, counted, State, state, step, fed, headOf, readingAt, readingOf}
+use Rattle.bench_file.specs.Layout.{Head, Words, GoodHead, headText, valuesText, says-ill-head, says-ill-values, says-whole}
+use Rattle.bench_file.specs.Steps.{reader, noneRead, valueByte, State, state, step, fed, headOf, readingAt, readingOf}
 use Rattle.bench_file.specs.StepLaws.{step-value, step-line-end, step-ill-values, value-opens, value-opens-ill, value-closes, value-closes-ill, line-end-ill, line-end-stores, fed-append}
-use Rattle.bench_file.specs.Runs.{countedAll, storedAll, headRead, head-of-held, fed-head, fed-values}
+use Rattle.bench_file.specs.Runs.{countedAll, storedAll, headRead, fed-head, fed-values}
 use Rattle.bench_file.specs.HeadLines.{lt-or-ge, eq-or-ne}
-use Rattle.bench_file.specs.ValueLines.{InValues, PastHead}
+use Rattle.bench_file.specs.ValueLines.{InValues}
 use Rattle.bench_file.specs.Reading.{ReadAs, read-ill-head, read-ill-values, read-whole}
-use Rattle.bench_file.specs.Standing.{StandsAt, Stands, stands-none, stands-fed}
+use Rattle.bench_file.specs.Standing.{StandsAt, stands-none, stands-fed}
 use Rattle.bench_file.specs.declared.number.Field.{Field}
 use Rattle.bench_file.specs.declared.reader.Stage.{Stage}
 use Rattle.bench_file.specs.declared.reader.Reader.{Reader}

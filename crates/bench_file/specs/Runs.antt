@@ -1,20 +1,19 @@
 -- The reader on a text of the layout. Fed a number it takes that number in; fed the two first lines it holds them; fed values it stores and counts
 -- them. Numbers first, for any stage that takes columns and a last column in.
-use mathlib.Core.Path.{_≡_, refl, sym, _∙_, ap, ap₂, subst}
-use mathlib.Core.Bool.{cond}
-use mathlib.Core.List.{List, [], _∷_, _++_, append-assoc, append-nil}
-use Prim.Native.Nat.{ℕ, zero, suc, _+_, _*_, _/_, _%_, _^_, _≤_, _<_, min}
+use mathlib.Core.Path.{_≡_, refl, sym, _∙_, ap, ap₂}
+use mathlib.Core.List.{List, [], _∷_, _++_, append-nil}
+use Prim.Native.Nat.{ℕ, zero, suc, _+_, _/_, _%_, _^_, _≤_, _<_}
 use native.Mathlib.Nat.{pow-succ', add-zero}
 use native.Mathlib.Numerals.{add-one}
 use native.Mathlib.Omega.{arith}
-use lib.ListN.{length, take, drop, set, replicate, length-append, length-set}
-use lib.Seq.{sets, sets-eq, take-at, set-out}
+use lib.ListN.{length, drop, set, replicate, length-set}
+use lib.Seq.{sets, sets-eq, take-at}
 use Rattle.meaning.specs.Tables.{at}
 use Rattle.bench_file.specs.Text.{shown, columns, number, numbers, line}
 use Rattle.bench_file.specs.Columns.{withDigit, withColumn}
-use Rattle.bench_file.specs.ColumnLaws.{Digit, digit-of, Column, blank, digit, column-of, column-shown, digit-shown}
+use Rattle.bench_file.specs.ColumnLaws.{digit-of, Column, blank, digit, column-of, column-shown, digit-shown}
 use Rattle.bench_file.specs.Layout.{Head, Words, none, next, GoodHead, headText, valuesText}
-use Rattle.bench_file.specs.Steps.{reader, noneRead, staged, opened, withHead, headColumn, firstByte, secondByte, withValue, valueByte, counted, State, state, lineEnd, step, fed, headOf}
+use Rattle.bench_file.specs.Steps.{reader, noneRead, staged, headColumn, counted, State, state, lineEnd, step, fed, headOf}
 use Rattle.bench_file.specs.StepLaws.{with-head-room, head-opens, head-closes, first-inside, first-ends, second-inside, second-ends, value-opens, value-closes, step-first, step-second, step-value, step-line-end, fed-append}
 use Rattle.bench_file.specs.declared.number.Field.{Field}
 use Rattle.bench_file.specs.declared.reader.Stage.{Stage}

@@ -1,18 +1,18 @@
 -- What the reader knows of the bytes so far, at every stage, and that every byte keeps it.
 use mathlib.Core.Path.{_≡_, refl, sym, _∙_, ap, subst}
 use mathlib.Core.List.{List, [], _∷_, _++_, append-assoc, append-nil}
-use mathlib.Core.Logic.{_⊎_, inl, inr, ⊎-elim}
+use mathlib.Core.Logic.{_⊎_, ⊎-elim}
 use Prim.Native.Nat.{ℕ, _+_, _≤_, _<_}
 use native.Mathlib.Omega.{arith}
-use lib.ListN.{length, set, replicate}
+use lib.ListN.{length, set}
 use Rattle.meaning.specs.Tables.{at}
 use Rattle.bench_file.specs.Text.{columns, number, numbers, line}
-use Rattle.bench_file.specs.Layout.{Words, none, GoodHead, headText, valuesText}
+use Rattle.bench_file.specs.Layout.{Words, none, headText, valuesText}
 use Rattle.bench_file.specs.Steps.{reader, noneRead, staged, headColumn, firstByte, secondByte, valueByte, lineEnd, counted, State, state, step, fed, headOf}
 use Rattle.bench_file.specs.StepLaws.{step-first, step-second, step-value, step-line-end, step-ill-head, step-ill-values, first-inside, first-broken, first-other, first-ends, second-inside, second-broken, second-high, second-many, second-other, second-ends, line-end-ill, line-end-stores}
 use Rattle.bench_file.specs.Runs.{countedAll, storedAll}
 use Rattle.bench_file.specs.HeadLines.{lt-or-ge, eq-or-ne, InHead, AfterHead, head-next}
-use Rattle.bench_file.specs.HeadEnds.{first-line-ends, HeadRead, second-line-ends}
+use Rattle.bench_file.specs.HeadEnds.{first-line-ends, second-line-ends}
 use Rattle.bench_file.specs.ValueLines.{InValues, PastHead, AfterValue, goes-on, is-whole, ends, value-spoils, value-next, value-line-ends}
 use Rattle.bench_file.specs.declared.reader.Stage.{Stage}
 use Rattle.bench_file.specs.declared.reader.Reader.{Reader}

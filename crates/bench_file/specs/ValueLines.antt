@@ -1,15 +1,15 @@
 -- In the values: the bytes so far are the first two lines, the lines of the values so far, and what there is of the next.
 use mathlib.Core.Path.{_≡_, refl, sym, _∙_, ap, ap₂, subst}
 use mathlib.Core.List.{List, [], _∷_, _++_, append-assoc, append-nil}
-use mathlib.Core.Logic.{_⊎_, inl, inr, ⊎-elim}
-use Prim.Native.Nat.{ℕ, zero, suc, _+_, _^_, _≤_, _<_}
+use mathlib.Core.Logic.{_⊎_, ⊎-elim}
+use Prim.Native.Nat.{ℕ, _+_, _^_, _≤_, _<_}
 use native.Mathlib.Numerals.{add-one}
 use native.Mathlib.Omega.{arith}
 use lib.ListN.{length, set, length-set}
 use Rattle.bench_file.specs.Text.{columns, number, numbers, line}
 use Rattle.bench_file.specs.Columns.{withDigit, withColumn}
 use Rattle.bench_file.specs.ColumnLaws.{digit-of, column-of, column-text, column-small, digit-text}
-use Rattle.bench_file.specs.Layout.{Head, Words, GoodHead, headText, valuesText}
+use Rattle.bench_file.specs.Layout.{Words, GoodHead, headText, valuesText}
 use Rattle.bench_file.specs.Steps.{reader, staged, opened, withValue, valueByte, counted, headOf}
 use Rattle.bench_file.specs.StepLaws.{value-opens, value-opens-ill, value-closes, value-closes-ill}
 use Rattle.bench_file.specs.Runs.{countedAll, storedAll}

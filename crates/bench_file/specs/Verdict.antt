@@ -1,6 +1,6 @@
 -- The number of the answer from its causes, in their order, and the settings in the types of the calls.
 use Prim.Native.Nat.{ℕ, min}
-use mathlib.Core.Bool.{Bool, true, false, cond}
+use mathlib.Core.Bool.{Bool, cond}
 use Rattle.meaning.specs.Settings.{first}
 use Rattle.bench_file.specs.declared.reader.Reading.{Reading}
 

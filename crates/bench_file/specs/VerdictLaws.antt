@@ -1,12 +1,12 @@
 -- The program's number is the layout's, and narrowing changes no number of the settings.
-use mathlib.Core.Path.{_≡_, refl, sym, _∙_, ap, ap₂, subst}
-use mathlib.Core.Bool.{Bool, true, false, _&&_, cond}
-use mathlib.Core.List.{List, [], _∷_, _++_}
+use mathlib.Core.Path.{_≡_, refl, sym, _∙_, ap, ap₂}
+use mathlib.Core.Bool.{Bool, true, false, cond}
+use mathlib.Core.List.{List}
 use mathlib.Core.Logic.{⊎-elim}
-use Prim.Native.Nat.{ℕ, zero, suc, _≤_, _<_, min}
+use Prim.Native.Nat.{ℕ, zero, suc, _≤_, _<_}
 use native.Mathlib.Omega.{arith}
-use borrow.Author.Tests.{lt-ltb, le-ltb, lt-leb, le-leb}
-use lib.Dec.{ltb, leb, eqb}
+use borrow.Author.Tests.{lt-ltb}
+use lib.Dec.{eqb}
 use lib.ListN.{length}
 use Rattle.meaning.specs.Boxes.{cells}
 use Rattle.meaning.specs.Replies.{between}

@@ -4,7 +4,7 @@ ghost use Prim.Native.Nat.{_+_, _*_, _≤_};
 ghost use lib.ListN.{length, replicate};
 ghost use lib.Seq.{sets};
 ghost use Rattle.meaning.specs.Boxes.{digits};
-ghost use Rattle.bench_file.specs.Text.{number, numbers, line};
+ghost use Rattle.bench_file.specs.Text.{number, numbers};
 ghost use Rattle.bench_file.specs.Layout.{nonZeros, termLines, acceptedText, refusedText};
 ghost use Rattle.bench_file.specs.Printed.{printed, printedSize, termText, oneTerm};
 use crate::number;

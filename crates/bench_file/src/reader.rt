@@ -2,7 +2,6 @@
 // into a lent table as they come. An input of any length is read: a line is never kept, and values past the table's end are only counted.
 ghost use mathlib.Core.Path.{_≡_};
 ghost use Prim.Native.Nat.{_<_};
-ghost use lib.ListN.{length};
 ghost use Rattle.bench_file.specs.Steps.{noneRead, staged, opened, withHead, headColumn, firstByte, secondByte, withValue, valueByte, state, lineEnd, step, fed, readingOf};
 use crate::number;
 use crate::number::Field;

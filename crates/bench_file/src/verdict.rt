@@ -1,6 +1,5 @@
 // The number of the answer, and the settings as the reader hands them over.
 ghost use mathlib.Core.Path.{_≡_};
-ghost use Rattle.meaning.specs.Tables.{at};
 ghost use Rattle.meaning.specs.Settings.{first};
 ghost use Rattle.bench_file.specs.Verdict.{verdict, narrowed, lowered};
 use crate::reader::Reader;

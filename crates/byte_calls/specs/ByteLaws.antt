@@ -2,12 +2,11 @@
 use mathlib.Core.Path.{_≡_, refl, sym, _∙_, ap, ap₂}
 use mathlib.Core.List.{List}
 use Prim.Native.Nat.{ℕ, zero, suc, _+_, _*_, _-_, _/_, _%_, _^_, _≤_, _<_}
-use native.Mathlib.Nat.{not-suc-le-zero, le-of-suc-le-suc, mul-assoc, mul-comm, one-mul, pow-suc, one-le-pow, pow-le-pow-right, mod-lt, mod-one, mod-eq-of-lt, div-one, div-div-eq-div-mul, div-add-mod', mul-div-cancel}
+use native.Mathlib.Nat.{not-suc-le-zero, le-of-suc-le-suc, mul-assoc, mul-comm, pow-suc, one-le-pow, pow-le-pow-right, mod-lt, mod-one, mod-eq-of-lt, div-one, div-div-eq-div-mul, div-add-mod', mul-div-cancel}
 use native.Mathlib.Numerals.{add-one}
 use native.Mathlib.Omega.{arith}
 use lib.Arith.{digits-lt, digits-div, digits-mod, mod-mul}
 use lib.ListN.{length}
-use lib.Seq.{ext-getD}
 use Rattle.meaning.specs.Sums.{sum}
 use Rattle.meaning.specs.Tables.{tabulate, at}
 use Rattle.theory.specs.Sums.{sum-eq, sum-mul-right}

@@ -1,25 +1,23 @@
 -- What follows for the numbers of the calls from what is known of bytes and settings.
 use mathlib.Core.Path.{_≡_, refl, sym, _∙_, ap, ap₂}
-use mathlib.Core.Bool.{Bool, true, false, _&&_, _||_, cond, true≢false, false≢true}
+use mathlib.Core.Bool.{Bool, true, false, _&&_, cond}
 use mathlib.Core.List.{List}
-use Prim.Native.Nat.{ℕ, zero, suc, _+_, _*_, _/_, _%_, _≤_, _<_}
-use native.Mathlib.Nat.{suc-ne-zero}
+use Prim.Native.Nat.{ℕ, _+_, _*_, _/_, _%_, _≤_, _<_}
 use native.Mathlib.Omega.{arith}
 use lib.Dec.{leb, ltb, eqb}
 use lib.ListN.{length, drop}
-use borrow.Author.Tests.{eq-eqb, ne-eqb, eqb-true, eqb-false, lt-ltb, le-ltb, ltb-false}
+use borrow.Author.Tests.{eq-eqb, ne-eqb, eqb-true, eqb-false, lt-ltb, le-ltb}
 use Rattle.meaning.specs.Tables.{at}
 use Rattle.meaning.specs.Boxes.{cells}
 use Rattle.meaning.specs.Replies.{Reply, accepted, refused, between}
 use Rattle.meaning.specs.Settings.{some, repeated, cube, settingsNumber, smallNumber, first}
-use Rattle.meaning.specs.Calls.{reply, settingsReply}
+use Rattle.meaning.specs.Calls.{reply}
 use Rattle.theory.specs.Tables.{at-tabulate, length-tabulate}
 use Rattle.theory.specs.Indices.{some-found, some-next, some-end, length-le-of-distinct}
 use Rattle.theory.specs.Settings.{cube-number}
 use Rattle.answers.specs.declared.Refusal.{Refusal}
-use Rattle.answers.specs.declared.Number.{Number}
-use Rattle.answers.specs.Said.{code, said}
-use Rattle.answers.specs.Laws.{Settled, Unsettled, settled, unsettled, reply-code, first-code}
+use Rattle.answers.specs.Said.{code}
+use Rattle.answers.specs.Laws.{Settled, Unsettled, reply-code, first-code}
 use Rattle.byte_calls.specs.Bytes.{numberAt, decoded}
 use Rattle.byte_calls.specs.Calls.{holds, boxNumber}
 

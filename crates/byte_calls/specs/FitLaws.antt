@@ -1,8 +1,8 @@
 -- What the fit on tables of bytes answers and leaves, in each of its cases.
 use mathlib.Core.Path.{_≡_, refl, sym, _∙_, ap, ap₂}
 use mathlib.Core.Bool.{Bool, true, false, _&&_, cond}
-use mathlib.Core.List.{List, []}
-use Prim.Native.Nat.{ℕ, zero, suc, pred, _*_, _≤_, _<_, min}
+use mathlib.Core.List.{List}
+use Prim.Native.Nat.{ℕ, pred, _*_, _≤_, _<_}
 use native.Mathlib.Nat.{suc-ne-zero}
 use native.Mathlib.Omega.{arith}
 use lib.Dec.{ltb, eqb}
@@ -10,11 +10,10 @@ use lib.ListN.{length}
 use borrow.Author.Tests.{eq-eqb, eqb-true, lt-ltb, le-ltb, ltb-true, ltb-false}
 use Rattle.meaning.specs.Tables.{tabulate}
 use Rattle.meaning.specs.Boxes.{cells}
-use Rattle.meaning.specs.Replies.{Reply, accepted, refused, between}
-use Rattle.meaning.specs.Settings.{cube, settingsNumber, smallNumber, first}
+use Rattle.meaning.specs.Replies.{Reply, refused}
+use Rattle.meaning.specs.Settings.{cube, first}
 use Rattle.meaning.specs.Calls.{reply, left}
-use Rattle.meaning.specs.Fit.{Fit, fitOf, columns, fitRows, fitColumns, fitCause, fitNumber, fitReply, fitOut, fitState, fitSucceeds, fitAnswer, degreeUsed}
-use Rattle.theory.specs.FitSizes.{cells-cube-le}
+use Rattle.meaning.specs.Fit.{Fit, fitOf, fitRows, fitColumns, fitCause, fitNumber, fitReply, fitOut, fitState, fitSucceeds, fitAnswer, degreeUsed}
 use Rattle.answers.specs.declared.Refusal.{Refusal}
 use Rattle.answers.specs.declared.Number.{Number}
 use Rattle.answers.specs.Said.{code, said}

@@ -1,11 +1,10 @@
 -- What the calls answer and leave, from what is known of the support's bytes, the settings and the tables' bytes: each has the same three cases, settings that
 -- are turned down, a wrong length, and the call on the tables that the bytes hold.
 use mathlib.Core.Path.{_≡_, refl, sym, _∙_, ap, ap₂}
-use mathlib.Core.Bool.{Bool, true, false, _&&_, cond, true≢false}
+use mathlib.Core.Bool.{Bool, true, false, _&&_, cond}
 use mathlib.Core.List.{List}
 use Prim.Native.Nat.{ℕ, zero, suc, _*_, _≤_, _^_}
 use native.Mathlib.Nat.{suc-ne-zero}
-use native.Mathlib.Omega.{arith}
 use lib.Dec.{ltb, eqb}
 use lib.ListN.{length, take, replicate, length-replicate}
 use lib.Seq.{length-take-le}
@@ -14,14 +13,14 @@ use Rattle.meaning.specs.Tables.{tabulate}
 use Rattle.meaning.specs.Boxes.{cells}
 use Rattle.meaning.specs.Values.{value}
 use Rattle.meaning.specs.Recovery.{accepts, answer}
-use Rattle.meaning.specs.Replies.{Reply, accepted, refused, between}
-use Rattle.meaning.specs.Settings.{cube, settingsNumber, smallNumber, callNumber, first}
+use Rattle.meaning.specs.Replies.{Reply, refused, between}
+use Rattle.meaning.specs.Settings.{settingsNumber, smallNumber, first}
 use Rattle.meaning.specs.Calls.{reply, left, inOutNumber, recoveryNumber, recoveryLeft, valueReply}
 use Rattle.theory.specs.Settings.{passes}
 use Rattle.answers.specs.declared.Refusal.{Refusal}
 use Rattle.answers.specs.declared.Number.{Number}
 use Rattle.answers.specs.Said.{code, said}
-use Rattle.answers.specs.Laws.{Settled, number-accepted, value-accepted, number-refused, reply-code, first-code, left-code, settled-number, settled-call}
+use Rattle.answers.specs.Laws.{Settled, number-accepted, value-accepted, number-refused, reply-code, first-code, left-code, settled-number}
 use Rattle.byte_calls.specs.Bytes.{decoded, encoded}
 use Rattle.byte_calls.specs.ByteLaws.{length-decoded}
 use Rattle.byte_calls.specs.Calls.{holds, boxNumber, recoverCause, recoverNumber, recoverLeft, bytesValueReply}

@@ -1,8 +1,8 @@
 -- A table of twenty bytes is the key that it makes, and becomes the key that is written to it.
-use mathlib.Core.Path.{_≡_, refl, sym, _∙_, ap}
+use mathlib.Core.Path.{_≡_, sym, _∙_, ap}
 use mathlib.Core.Bool.{cond}
 use mathlib.Core.List.{List}
-use Prim.Native.Nat.{ℕ, _<_}
+use Prim.Native.Nat.{ℕ}
 use borrow.Author.Tests.{lt-ltb, le-leb}
 use native.Mathlib.Nat.{le-of-eq}
 use lib.Dec.{ltb}

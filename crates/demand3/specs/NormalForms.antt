@@ -6,7 +6,7 @@ use mathlib.Core.List.{List, map}
 use lib.Pow.{pow-pos}
 use lib.IntN.{pos}
 use lib.ListN.{length}
-use Rattle.meaning.specs.Tables.{tabulate, at}
+use Rattle.meaning.specs.Tables.{tabulate}
 use Rattle.meaning.specs.Boxes.{cells, digits}
 use Rattle.meaning.specs.Values.{bound, Normal}
 use Rattle.meaning.specs.Integers.{residue}

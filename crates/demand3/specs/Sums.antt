@@ -7,7 +7,6 @@ use lib.ListN.{length}
 use Rattle.meaning.specs.Tables.{at}
 use Rattle.meaning.specs.Boxes.{cells}
 use Rattle.meaning.specs.Values.{bound, boxTotal}
-use Rattle.meaning.specs.Recovery.{answer}
 use Rattle.meaning.specs.Calls.{left, recoveryNumber, recoveryLeft, sumLeft}
 use Rattle.theory.specs.Tables.{length-tabulate}
 use Rattle.theory.specs.DemandThree.{accepts-total, answer-total}

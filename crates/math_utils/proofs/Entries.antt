@@ -1,6 +1,6 @@
 -- The entries of a Stirling table, cell by cell: the corner, the left column, the top row, and every other entry from the row before.
 use mathlib.Core.Path.{_≡_, refl, sym, _∙_, ap, ap₂}
-use Prim.Native.Nat.{ℕ, zero, suc, _+_, _*_, _-_, _/_, _%_, _^_, _≤_, _<_, pred}
+use Prim.Native.Nat.{ℕ, suc, _+_, _*_, _-_, _/_, _%_, _^_, _≤_, _<_, pred}
 use native.Mathlib.Nat.{mod-eq-of-lt, mod-lt, zero-mod, div-add-mod', suc-pred-eq-of-ne-zero}
 use native.Mathlib.Numerals.{add-one}
 use native.Mathlib.Omega.{arith}
@@ -9,7 +9,6 @@ use lib.Pow.{pow-pos, pow-lt}
 use Rattle.meaning.specs.Tables.{tabulate}
 use Rattle.meaning.specs.Stirling.{stirling1, stirling2}
 use Rattle.meaning.specs.Integers.{residue}
-use Rattle.meaning.specs.Differences.{minus}
 use Rattle.theory.specs.Congruence.{Cong, cong-of-eq, cong-trans, cong-add, cong-add-left, cong-mul-left, mod-cong, eq-of-cong, minus-lt, cong-minus-of-add}
 use Rattle.theory.specs.Integers.{residue-lt}
 use Rattle.theory.specs.StirlingNumbers.{signed-step}

@@ -1,7 +1,6 @@
 -- The two Stirling tables under one name.
-use Prim.Native.Nat.{ℕ, suc, _+_, _*_, _-_, _/_, _%_, _^_}
+use Prim.Native.Nat.{ℕ, _+_, _*_, _-_, _/_, _%_, _^_}
 use mathlib.Core.List.{List}
-use Rattle.meaning.specs.Tables.{tabulate}
 use Rattle.meaning.specs.Differences.{minus}
 use Rattle.meaning.specs.Integers.{residue}
 use Rattle.meaning.specs.Stirling.{stirling1, stirling2}

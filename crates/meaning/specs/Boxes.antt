@@ -1,6 +1,6 @@
 -- Boxes. A degree list ds has one degree for each support variable, first variable first. Its box has a cell for each exponent list with no
 -- exponent above its degree, and the first variable's exponent counts fastest.
-use Prim.Native.Nat.{ℕ, zero, suc, _+_, _*_, _/_, _%_, _≤_}
+use Prim.Native.Nat.{ℕ, suc, _+_, _*_, _/_, _%_, _≤_}
 use mathlib.Core.List.{List, [], _∷_}
 use Rattle.meaning.specs.Sums.{sum}
 

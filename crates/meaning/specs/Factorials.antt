@@ -1,6 +1,6 @@
 -- Factorials, falling factorials, and the twos and the odd part of a number.
-use Prim.Native.Nat.{ℕ, zero, suc, _+_, _*_, _-_, _/_, _%_, _^_}
-use mathlib.Core.Bool.{Bool, true, false}
+use Prim.Native.Nat.{ℕ, zero, suc, _*_, _-_, _/_, _%_, _^_}
+use mathlib.Core.Bool.{true, false}
 use lib.Dec.{leb}
 
 -- 1 × 2 × .. × n

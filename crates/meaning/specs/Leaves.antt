@@ -1,6 +1,6 @@
 -- What the calls of arith, math_utils and mono answer.
-use Prim.Native.Nat.{ℕ, zero, suc, _+_, _*_, _/_, _%_, _^_, max}
-use mathlib.Core.Bool.{Bool, _&&_, cond}
+use Prim.Native.Nat.{ℕ, zero, suc, _*_, _/_, _%_, _^_, max}
+use mathlib.Core.Bool.{_&&_, cond}
 use mathlib.Core.List.{List}
 use lib.Dec.{leb, ltb, eqb}
 use lib.ListN.{length, set}

@@ -1,6 +1,6 @@
 -- Recovery: from the values on the grid to the coefficients of the falling factorials, at width w and for a degree list ds.
 use Prim.Native.Nat.{ℕ, zero, suc, _*_, _-_, _/_, _%_, _^_, min}
-use mathlib.Core.Bool.{Bool, true, false, _&&_, cond}
+use mathlib.Core.Bool.{Bool, true, _&&_}
 use mathlib.Core.List.{List}
 use lib.Dec.{eqb}
 use Rattle.meaning.specs.Tables.{tabulate}

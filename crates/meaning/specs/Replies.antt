@@ -1,6 +1,6 @@
 -- What a call says: the number of its refusal, or 0, and a value, which is 0 with a refusal.
 use Prim.Native.Nat.{ℕ}
-use mathlib.Core.Bool.{Bool, _&&_, cond}
+use mathlib.Core.Bool.{Bool, _&&_}
 use lib.Dec.{leb}
 
 pub record Reply : Type 0 where

@@ -1,6 +1,6 @@
 -- The settings of a call and the order in which they are turned down. A box has a degree for each support variable.
 use Prim.Native.Nat.{ℕ, zero, suc}
-use mathlib.Core.Bool.{Bool, true, false, _&&_, _||_, cond}
+use mathlib.Core.Bool.{Bool, false, _&&_, _||_, cond}
 use mathlib.Core.List.{List, [], _∷_}
 use lib.Dec.{leb, ltb, eqb}
 use lib.ListN.{length, replicate}

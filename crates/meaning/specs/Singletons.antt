@@ -1,5 +1,5 @@
 -- Singleton powers: for each variable alone, the others held at 0, the coefficients of its falling factorials without the constant.
-use Prim.Native.Nat.{ℕ, zero, suc, pred, _*_, _/_, _%_}
+use Prim.Native.Nat.{ℕ, pred, _*_, _/_, _%_}
 use mathlib.Core.Bool.{Bool, _&&_, cond}
 use mathlib.Core.List.{List, [], _∷_}
 use lib.Dec.{ltb, eqb}

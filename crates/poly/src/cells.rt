@@ -1,7 +1,7 @@
 // The walks over the cells of a box. The sub-boxes of the last variable lie one after the other, so that each walk is a recursion over the last
 // variable and lends on parts.
 ghost use mathlib.Core.Path.{_≡_};
-ghost use Prim.Native.Nat.{_+_, _*_, _-_, _%_, _^_, _≤_};
+ghost use Prim.Native.Nat.{_+_, _-_, _%_, _^_, _≤_};
 ghost use lib.Dec.{ltb};
 ghost use lib.ListN.{length};
 ghost use Rattle.meaning.specs.Tables.{at, tabulate};

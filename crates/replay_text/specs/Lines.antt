@@ -1,7 +1,6 @@
 -- What each byte of a line does to the state.
 use Prim.Native.Nat.{ℕ, _+_, _*_, _%_, _^_}
 use mathlib.Core.Bool.{true, false, cond, _&&_}
-use mathlib.Core.List.{List}
 use lib.Dec.{ltb}
 use lib.ListN.{replicate, set}
 use Rattle.replay_text.specs.declared.Line.{Line}

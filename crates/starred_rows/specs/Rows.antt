@@ -1,8 +1,8 @@
 -- The starred rows of document 01, as one list of tests on the definitions of `meaning`, and one theorem: all hold, by computation.
-use Prim.Native.Nat.{ℕ, zero, suc, _+_, _*_, _%_, _^_}
-use mathlib.Core.Bool.{Bool, true, false, _&&_}
+use Prim.Native.Nat.{ℕ, suc, _+_, _*_, _%_, _^_}
+use mathlib.Core.Bool.{Bool, true, _&&_}
 use mathlib.Core.List.{List, [], _∷_}
-use lib.Dec.{T, ltb, leb, eqb}
+use lib.Dec.{T, eqb}
 use lib.ListN.{length, replicate}
 use Rattle.meaning.specs.Tables.{tabulate, at}
 use Rattle.meaning.specs.Sums.{sum}

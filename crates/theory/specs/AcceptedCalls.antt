@@ -1,5 +1,5 @@
 -- What an accepted call with one table in and one out knows of its settings and lengths.
-use mathlib.Core.Path.{_≡_, refl, sym, _∙_}
+use mathlib.Core.Path.{_≡_, refl}
 use mathlib.Core.Bool.{Bool, true, false, _&&_, cond, false≢true}
 use mathlib.Core.List.{List}
 use Prim.Native.Nat.{ℕ, zero, suc, _≤_}
@@ -49,9 +49,6 @@ ready strict total w support ds given out e =
 module _ {strict : Bool} {total w : ℕ} {support ds given out : List ℕ} (r : Ready strict total w support ds given out) where
   pub ready-passes : Passes total (between 2 64 w) support
   ready-passes = passes strict total (between 2 64 w) support ds (r .settings)
-
-  pub ready-low : 2 ≤ w
-  ready-low = width-low w (ready-passes .width)
 
   pub ready-high : w ≤ 64
   ready-high = width-high w (ready-passes .width)

@@ -5,11 +5,10 @@ use mathlib.Core.Path.{_≡_, refl, sym, ap, ap₂, subst, _∙_}
 use mathlib.Core.Logic.{_↔_}
 use mathlib.Core.Bool.{Bool, true, false, _&&_, _||_, cond, true≢false}
 use Prim.Native.Nat.{ℕ, zero, suc, _+_, _*_, _-_, _%_, _^_, _≤_, _<_}
-use native.Mathlib.Nat.{not-suc-le-zero, le-refl, le-of-lt, ne-of-gt, lt-of-lt-of-le, lt-of-not-le, sub-le, zero-mul, zero-add, mul-comm}
-use native.Mathlib.Decide.{decLe}
+use native.Mathlib.Nat.{not-suc-le-zero, le-refl, le-of-lt, ne-of-gt, zero-mul, zero-add, mul-comm}
 use native.Mathlib.Omega.{arith}
 use lib.Dec.{T, ltb, ltb→lt, lt→ltb, eqb, eqb→eq}
-use lib.Pow.{pow-pos, pow-mono}
+use lib.Pow.{pow-pos}
 use borrow.Author.Tests.{eq-eqb, ne-eqb}
 use Rattle.meaning.specs.Sums.{sum}
 use Rattle.meaning.specs.Factorials.{twosIn}
@@ -20,7 +19,7 @@ use Rattle.theory.specs.Congruence.{Cong, cong-of-eq, cong-trans, cong-a
 use Rattle.theory.specs.Sums.{sum-eq, sum-zero, sum-last, sum-split}
 use Rattle.theory.specs.Every.{and-iff, last, every-iff}
 use Rattle.theory.specs.LinearSystems.{Solves}
-use Rattle.theory.specs.OneEquation.{quotient-mul, quotient-lt}
+use Rattle.theory.specs.OneEquation.{quotient-mul}
 use Rattle.theory.specs.Elimination.{solves-eliminated}
 use Rattle.theory.specs.Echelon.{Echelon, ItsColumn, echelon-eliminated}
 
@@ -89,17 +88,6 @@ module _ (w cols : ℕ) (s : State) where
   -- whether a column divides is known when its turn comes
   pub dividesRest-backward : (c : ℕ) (x : ℕ → ℕ) → dividesRest w cols s (backward w cols s (suc c) x) c ≡ dividesRest w cols s x c
   dividesRest-backward c x = dividesRest-eq (backward w cols s (suc c) x) x c (λ j l. backward-keeps (suc c) x j l)
-
-  -- every value is below 2^w
-  pub substituted-lt : (c : ℕ) → substituted w cols s c < 2 ^ w
-  unfolding substituted unknown
-  substituted-lt c = go (decLe cols c)
-    where
-      go : Dec (cols ≤ c) → substituted w cols s c < 2 ^ w
-      go (yes h) = rw (backward-keeps cols (λ j. 0) c h) (pow-pos w)
-      go (no h) =
-          rw (substituted-unknown c (lt-of-not-le h))
-          (lt-of-lt-of-le (quotient-lt w (twosIn w (pivotEntry s c)) (pivotEntry s c) _) (pow-mono (sub-le w _)))
 
   -- a row that is 0 before column c is solved by values of which that of c follows from those after it
   pub pivot-row-solved : (x : ℕ → ℕ) (c : ℕ) → c < cols → ((k : ℕ) → k < c → s .entry (s .pivot c) k ≡ 0)

@@ -1,7 +1,7 @@
 -- Binomial coefficients, by Pascal's rule, and falling factorials.
 -- A falling factorial is a factorial times a binomial coefficient. The one law with a case split is `mul-falling`: where n is above x the cut
 -- difference x - n stands beside a factor 0.
-use mathlib.Core.Path.{_≡_, refl, sym, ap, ap₂, _∙_}
+use mathlib.Core.Path.{_≡_, refl, sym, ap, _∙_}
 use mathlib.Core.Logic.{_⊎_, inl, inr}
 use Prim.Native.Nat.{ℕ, zero, suc, _+_, _-_, _*_, _≤_, _<_}
 use native.Mathlib.Nat.{zero-lt-suc, not-suc-le-zero, le-of-suc-le-suc, mul-pos, sub-add-cancel, suc-sub-suc, eq-or-lt-of-le, le-of-eq, sub-eq-zero-of-le, lt-of-not-le}
@@ -15,19 +15,6 @@ unfoldable pub choose : ℕ → ℕ → ℕ
 choose x zero = 1
 choose zero (suc n) = 0
 choose (suc x) (suc n) = choose x n + choose x (suc n)
-
--- there is no set of more things than there are
-pub choose-zero : (x n : ℕ) → x < n → choose x n ≡ 0
-unfolding choose
-choose-zero x zero h = absurd (not-suc-le-zero h)
-choose-zero zero (suc n) h = refl
-choose-zero (suc x) (suc n) h = ap₂ _+_ (choose-zero x n (le-of-suc-le-suc h)) (choose-zero x (suc n) (omega arith))
-
--- and one of them all
-pub choose-self : (n : ℕ) → choose n n ≡ 1
-unfolding choose
-choose-self zero = refl
-choose-self (suc n) = ap₂ _+_ (choose-self n) (choose-zero n (suc n) (omega arith))
 
 -- a factorial is above 0
 pub factorial-pos : (n : ℕ) → 0 < factorial n

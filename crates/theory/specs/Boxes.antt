@@ -3,7 +3,7 @@
 use mathlib.Core.Path.{_≡_, refl, sym, ap, ap₂, _∙_}
 use Prim.Native.Nat.{ℕ, suc, _+_, _*_, _/_, _%_, _<_, suc-le-suc}
 use mathlib.Core.List.{List, [], _∷_}
-use native.Mathlib.Nat.{zero-lt-suc, le-of-suc-le-suc, mod-lt, mul-pos, div-add-mod', div-lt-iff-lt-mul, mul-comm}
+use native.Mathlib.Nat.{zero-lt-suc, le-of-suc-le-suc, mod-lt, mul-pos, div-add-mod', div-lt-iff-lt-mul}
 use native.Mathlib.Omega.{arith}
 use lib.Arith.{digits-lt, digits-div, digits-mod}
 use lib.ListN.{length}
@@ -81,9 +81,6 @@ unfolding boxSum
 boxSum-mul-left [] c f = refl
 boxSum-mul-left (d ∷ ds) c f =
     sum-eq (suc d) (λ e p. boxSum-mul-left ds c (λ es. f (e ∷ es))) ∙ sum-mul-left (suc d) c (λ e. boxSum ds (λ es. f (e ∷ es)))
-
-pub boxSum-mul-right : (ds : List ℕ) (c : ℕ) (f : List ℕ → ℕ) → boxSum ds (λ es. f es * c) ≡ boxSum ds f * c
-boxSum-mul-right ds c f = boxSum-eq ds (λ es w. mul-comm (f es) c) ∙ boxSum-mul-left ds c f ∙ mul-comm c (boxSum ds f)
 
 -- a sum of zeros
 pub boxSum-zero : (ds : List ℕ) {f : List ℕ → ℕ} → ((es : List ℕ) → Within ds es → f es ≡ 0) → boxSum ds f ≡ 0

@@ -3,8 +3,8 @@
 -- is a law of such equations.
 use mathlib.Core.Path.{_≡_, refl, sym, ap, _∙_}
 use mathlib.Core.Logic.{_↔_}
-use Prim.Native.Nat.{ℕ, zero, suc, _+_, _-_, _*_, _/_, _%_, _<_}
-use native.Mathlib.Nat.{div-add-mod', add-mul-mod-self-right, zero-mul, mul-zero, zero-mod, mod-zero, zero-lt-suc, mod-mod, mod-lt, mod-eq-of-lt, eq-of-mul-eq-mul-left, mul-lt-mul-of-pos-left}
+use Prim.Native.Nat.{ℕ, suc, _+_, _-_, _*_, _/_, _%_, _<_}
+use native.Mathlib.Nat.{div-add-mod', add-mul-mod-self-right, mod-mod, mod-lt, mod-eq-of-lt, eq-of-mul-eq-mul-left}
 use native.Mathlib.Omega.{arith}
 use Rattle.meaning.specs.Differences.{minus}
 
@@ -81,18 +81,6 @@ cong-add-cancel-cong {m} {a} {b} {c} {d} k h = cong-add-cancel c (cong-trans h (
 -- congruent numbers are congruent modulo a divisor
 pub cong-of-mul : (d e : ℕ) {a b : ℕ} → Cong (d * e) a b → Cong d a b
 cong-of-mul d e {a} {b} h = of-multiples d (b / (d * e) * e) (a / (d * e) * e) (omega (arith, multiples h))
-
--- a factor of number and modulus is a factor of the remainder
-pub mul-mod-mul : (g h a : ℕ) → (g * a) % (g * h) ≡ g * (a % h)
-mul-mod-mul zero h a = simp (zero-mul, zero-mod)
-mul-mod-mul (suc g) zero a = simp (mul-zero, mod-zero)
-mul-mod-mul (suc g) (suc h) a =
-    ap (_% (suc g * suc h)) parts
-    ∙ add-mul-mod-self-right (suc g * (a % suc h)) (a / suc h) (suc g * suc h)
-    ∙ mod-eq-of-lt (mul-lt-mul-of-pos-left (mod-lt a (zero-lt-suc h)) (zero-lt-suc g))
-  where
-    parts : suc g * a ≡ suc g * (a % suc h) + a / suc h * (suc g * suc h)
-    parts = omega (arith, ap (suc g *_) (div-add-mod' a (suc h)))
 
 -- a common factor of both numbers and the modulus is cancelled
 pub cong-mul-mul : {g : ℕ} (h : ℕ) {a b : ℕ} → 0 < g → Cong (g * h) (g * a) (g * b) ↔ Cong h a b

@@ -1,7 +1,7 @@
 -- Laws of the conversions of a coefficient box: conversions modulo a multiple of n are, modulo n, those modulo n; the two undo one another; and
 -- neither changes a value, nor does the normal form. Both are transforms by a matrix of Stirling numbers.
 use mathlib.Core.Path.{_≡_, sym, ap, _∙_}
-use Prim.Native.Nat.{ℕ, suc, _+_, _*_, _-_, _%_, _^_, _≤_, _<_, min}
+use Prim.Native.Nat.{ℕ, suc, _+_, _*_, _-_, _%_, _^_, _≤_, _<_}
 use native.Mathlib.Nat.{mod-lt, mul-comm}
 use native.Mathlib.Omega.{arith}
 use mathlib.Core.List.{List}
@@ -10,21 +10,20 @@ use lib.Pow.{pow-pos, pow-add}
 use Rattle.meaning.specs.Tables.{tabulate, at}
 use Rattle.meaning.specs.Factorials.{falling}
 use Rattle.meaning.specs.Boxes.{cells, digits, along}
-use Rattle.meaning.specs.Values.{value, weight, bound, Normal}
+use Rattle.meaning.specs.Values.{value, bound, Normal}
 use Rattle.meaning.specs.Differences.{grid}
 use Rattle.meaning.specs.Stirling.{stirling1, stirling2, fallingLine, powerLine}
 use Rattle.meaning.specs.Conversions.{fallingBox, powerBox, normalBox}
-use Rattle.theory.specs.Congruence.{Cong, cong-of-eq, cong-refl, cong-trans, cong-of-mul, mod-cong}
+use Rattle.theory.specs.Congruence.{cong-of-eq, cong-refl, cong-trans, mod-cong}
 use Rattle.theory.specs.Sums.{sum-eq}
-use Rattle.theory.specs.Tables.{length-tabulate, at-tabulate, eq-tabulate, tabulate-cong}
-use Rattle.theory.specs.Boxes.{digits-within}
+use Rattle.theory.specs.Tables.{length-tabulate, at-tabulate, eq-tabulate}
 use Rattle.theory.specs.Integers.{residue-of-mul}
 use Rattle.theory.specs.StirlingNumbers.{signed, stirling2-mul-signed, signed-mul-stirling2}
 use Rattle.theory.specs.Evaluation.{eval, eval-cong, value-eq-eval}
 use Rattle.theory.specs.Values.{entry}
 use Rattle.theory.specs.BoxConversions.{eval-falling-along, eval-power-along}
-use Rattle.theory.specs.MatrixLines.{Undoes, grid-cong, entry-matrixBox, cell-of-mul, matrixBox-of-mul, matrixBox-undo}
-use Rattle.theory.specs.Widths.{bound-pos, modulus-parts}
+use Rattle.theory.specs.MatrixLines.{Undoes, grid-cong, entry-matrixBox, matrixBox-of-mul, matrixBox-undo}
+use Rattle.theory.specs.Widths.{bound-pos}
 use Rattle.theory.specs.DemandThree.{value-cong-normal, normal-eq-of-values}
 
 -- the coefficient of the falling factorial j in the power e, and of the power j in the falling factorial e, modulo m
@@ -46,11 +45,6 @@ module _ (n k : ℕ) (p : 0 < n) (ds c : List ℕ) where
   unfolding powerBox powerLine
   powerBox-of-mul q = matrixBox-of-mul n k (toPower (n * k)) (toPower n) (λ j e. residue-of-mul n k (stirling1 e j) p q) ds c p
 
--- congruent modulo 2^w is congruent modulo a bound
-cong-of-bound : (w : ℕ) (es : List ℕ) {a b : ℕ} → Cong (2 ^ w) a b → Cong (bound w es) a b
-cong-of-bound w es {a} {b} h =
-    cong-of-mul (bound w es) (2 ^ min (weight es) w) (rw (modulus-parts w es ∙ mul-comm (2 ^ min (weight es) w) (bound w es)) at h)
-
 -- a box converted modulo 2^64 and then cut to width w
 module _ (w : ℕ) (h : w ≤ 64) (ds c : List ℕ) where
   word : 2 ^ 64 ≡ 2 ^ w * 2 ^ (64 - w)
@@ -67,16 +61,6 @@ module _ (w : ℕ) (h : w ≤ 64) (ds c : List ℕ) where
   powerBox-of-word =
       ap (λ m. tabulate (cells ds) (λ i. along (powerLine m) ds (entry ds c) (digits ds i) % 2 ^ w)) word
       ∙ powerBox-of-mul (2 ^ w) (2 ^ (64 - w)) (pow-pos w) ds c (pow-pos (64 - w))
-
-  -- each number cut to its bound is that of the normal form
-  pub normalBox-of-word : tabulate (cells ds) (λ i. along (fallingLine (2 ^ 64)) ds (entry ds c) (digits ds i) % bound w (digits ds i)) ≡ normalBox w ds c
-  unfolding normalBox fallingLine
-  normalBox-of-word =
-      ap (λ m. tabulate (cells ds) (λ i. along (fallingLine m) ds (entry ds c) (digits ds i) % bound w (digits ds i))) word
-      ∙ tabulate-cong (cells ds) _ _ λ i p.
-      cong-of-bound w (digits ds i)
-      (cell-of-mul (2 ^ w) (2 ^ (64 - w)) toFalling toFalling (λ j e. cong-refl (stirling2 e j)) ds c (digits ds i) (digits-within ds i))
-      .same
 
 -- ---- the conversions undo one another
 

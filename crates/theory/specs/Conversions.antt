@@ -9,7 +9,7 @@ use Rattle.meaning.specs.Stirling.{stirling2, fallingLine, powerLine}
 use Rattle.theory.specs.Congruence.{Cong, cong-of-eq, cong-trans, cong-mul-left, cong-mul-right, mod-cong}
 use Rattle.theory.specs.Sums.{sum-eq, sum-cong, sum-mul-left, sum-mul-right, sum-swap}
 use Rattle.theory.specs.FlatTables.{Local}
-use Rattle.theory.specs.StirlingNumbers.{signed, delta, sum-delta, stirling2-mul-signed, signed-mul-stirling2}
+use Rattle.theory.specs.StirlingNumbers.{signed, delta, sum-delta, signed-mul-stirling2}
 
 -- two changes of coefficients, one after the other, are the product of both
 sum-compose : (n k : ℕ) (a : ℕ → ℕ) (b : ℕ → ℕ → ℕ) (c : ℕ → ℕ) →
@@ -36,12 +36,7 @@ twice {m} d a b c j h inverse =
     .same
 
 module _ {m : ℕ} (positive : 0 < m) where
-  -- to falling factorials and back, and the other way round
-  pub powerLine-fallingLine : (d : ℕ) (c : ℕ → ℕ) (j : ℕ) → j ≤ d → powerLine m d (fallingLine m d c) j ≡ c j % m
-  unfolding powerLine fallingLine
-  powerLine-fallingLine d c j h =
-      twice d (λ e. signed m e j) (λ e f. stirling2 f e) c j h (λ f p. stirling2-mul-signed positive f j d p)
-
+  -- to powers and back
   pub fallingLine-powerLine : (d : ℕ) (c : ℕ → ℕ) (j : ℕ) → j ≤ d → fallingLine m d (powerLine m d c) j ≡ c j % m
   unfolding powerLine fallingLine
   fallingLine-powerLine d c j h =
@@ -55,10 +50,6 @@ fallingLine-cong m d h j = sum-cong (suc d) (λ e p. cong-mul-left (stirling2 e 
 pub powerLine-cong : (m d : ℕ) {b c : ℕ → ℕ} → ((e : ℕ) → e ≤ d → Cong m (b e) (c e)) → (j : ℕ) → powerLine m d b j ≡ powerLine m d c j
 unfolding powerLine
 powerLine-cong m d h j = sum-cong (suc d) (λ e p. cong-mul-left (signed m e j) (h e (le-of-suc-le-suc p))) .same
-
-pub fallingLine-lt : (m d : ℕ) (c : ℕ → ℕ) (j : ℕ) → 0 < m → fallingLine m d c j < m
-unfolding fallingLine
-fallingLine-lt m d c j p = mod-lt _ p
 
 pub powerLine-lt : (m d : ℕ) (c : ℕ → ℕ) (j : ℕ) → 0 < m → powerLine m d c j < m
 unfolding powerLine

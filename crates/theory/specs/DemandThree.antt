@@ -1,7 +1,7 @@
 -- Recovery at width w, in the words of its definition: the answer is a normal form; it agrees where it is accepted; it is accepted where some box
 -- agrees; the answer is the only normal form that agrees, and every other one disagrees at a grid point; two boxes that agree have the same values
 -- everywhere; sums. Each is recovery of tables modulo m with the cells of the width.
-use mathlib.Core.Path.{_≡_, sym, ap, ap₂, _∙_}
+use mathlib.Core.Path.{_≡_, sym, ap₂, _∙_}
 use mathlib.Core.Logic.{_↔_}
 use Prim.Native.Nat.{ℕ, _+_, _%_, _^_, _<_}
 use mathlib.Core.List.{List}
@@ -13,10 +13,10 @@ use Rattle.meaning.specs.Values.{value, Agrees, bound, Normal, boxTotal}
 use Rattle.meaning.specs.Recovery.{difference, divides, coefficient, accepts, answer}
 use Rattle.theory.specs.Congruence.{Cong}
 use Rattle.theory.specs.Tables.{tabulate-cong}
-use Rattle.theory.specs.Every.{every-iff, Failing}
+use Rattle.theory.specs.Every.{every-iff}
 use Rattle.theory.specs.Widths.{widthCell, divides-iff, coefficient-eq}
-use Rattle.theory.specs.GridRecovery.{Passes, solutions, solutionAt, tableTotal, solutions-bounded, solutions-agree, passes-of-agrees, agrees-solved}
-use Rattle.theory.specs.GridRecovery.{bounded-unique, agrees-same, bounded-disagrees, bounded-eq-of-values, value-cong-bounds, value-boxTotal, passes-total, solutions-total}
+use Rattle.theory.specs.GridRecovery.{Passes, solutions, solutionAt, tableTotal, solutions-bounded, solutions-agree, passes-of-agrees}
+use Rattle.theory.specs.GridRecovery.{bounded-unique, agrees-same, bounded-eq-of-values, value-cong-bounds, value-boxTotal, passes-total, solutions-total}
 
 -- accepted is that every difference passes
 pub accepts-iff : (w : ℕ) (ds v : List ℕ) → T (accepts w ds v) ↔ Passes (widthCell w) ds v
@@ -48,19 +48,9 @@ module _ (w : ℕ) (ds : List ℕ) where
   pub accepts-of-agrees : (c v : List ℕ) → Agrees (2 ^ w) ds c v → T (accepts w ds v)
   accepts-of-agrees c v a = accepts-iff w ds v .1 (passes-of-agrees (pow-pos w) (widthCell w) ds c v a)
 
-  -- a box that agrees has the coefficients of the answer, modulo the bounds
-  pub agrees-answer : (c v : List ℕ) → Agrees (2 ^ w) ds c v → (n : ℕ) → n < cells ds → at c n % bound w (digits ds n) ≡ at (answer w ds v) n
-  agrees-answer c v a n p =
-      agrees-solved (pow-pos w) (widthCell w) ds c v a n p ∙ ap (λ (t : List ℕ). at t n) (sym (answer-eq w ds v))
-
   -- the answer is the only normal form that agrees
   pub normal-unique : (c v : List ℕ) → Normal w ds c → Agrees (2 ^ w) ds c v → c ≡ answer w ds v
   normal-unique c v b a = bounded-unique (pow-pos w) (widthCell w) ds c v a b ∙ sym (answer-eq w ds v)
-
-  -- every other normal form disagrees at a grid point
-  pub normal-disagrees : (c v : List ℕ) → Normal w ds c → (c ≡ answer w ds v → ⊥)
-      → Failing (cells ds) (λ n. value (2 ^ w) ds c (digits ds n) ≡ at v n % 2 ^ w)
-  normal-disagrees c v b ne = bounded-disagrees (pow-pos w) (widthCell w) ds c v b (λ e. ne (e ∙ sym (answer-eq w ds v)))
 
   -- normal forms with the same values on the grid are equal
   pub normal-eq-of-values : (c d : List ℕ) → Normal w ds c → Normal w ds d

@@ -81,11 +81,6 @@ pub each-of-all : {P : ℕ → ℕ → Type 0} (ds xs : List ℕ) → ((d x : �
 each-of-all [] xs h = done
 each-of-all (d ∷ ds) xs h = more (h d (at xs 0)) (each-of-all ds (drop 1 xs) h)
 
--- what holds of all coordinates up to the degree holds at a point of the grid
-pub each-of-within : {P : ℕ → ℕ → Type 0} {ds xs : List ℕ} → Within ds xs → ((d x : ℕ) → x ≤ d → P d x) → Each P ds xs
-each-of-within none h = done
-each-of-within (next {d} {e} p w) h = more (h d e p) (each-of-within w h)
-
 -- congruent functions f and g, at the coordinates and up to the degrees
 pub eval-cong-function : {m : ℕ} {f g : ℕ → ℕ → ℕ} {ds : List ℕ} (A : List ℕ → ℕ) {xs : List ℕ}
     → Each (λ d x. (e : ℕ) → e ≤ d → Cong m (f x e) (g x e)) ds xs → Cong m (eval f ds A xs) (eval g ds A xs)

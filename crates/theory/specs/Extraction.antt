@@ -1,9 +1,9 @@
 -- From a difference to its coefficient, variable by variable, the last variable first. Of the exponents hs of the last variables the weight is
 -- known, cut at the width, and the inverse of the odd factor modulo 2^64; one exponent more adds to the first and multiplies the second.
-use mathlib.Core.Path.{_≡_, refl, sym, _∙_, ap, ap₂}
+use mathlib.Core.Path.{_≡_, sym, _∙_, ap}
 use mathlib.Core.List.{List, [], _∷_, _++_, append-assoc}
 use Prim.Native.Nat.{ℕ, suc, _+_, _*_, _-_, _/_, _%_, _^_, _≤_, _<_, min}
-use native.Mathlib.Nat.{mod-eq-of-lt, mod-lt, mod-one, one-mul, mul-comm, zero-lt-suc, div-lt-iff-lt-mul, div-add-mod', lt-of-not-le, mul-mul-mul-comm, mul-assoc}
+use native.Mathlib.Nat.{mod-lt, mod-one, one-mul, mul-comm, lt-of-not-le, mul-mul-mul-comm, mul-assoc}
 use native.Mathlib.Decide.{decLe}
 use native.Mathlib.Omega.{arith}
 use lib.Dec.{eqb}

@@ -131,16 +131,6 @@ module _ (line : Line) (local : Local line) where
   lined-cong s d f g pos same i h =
       local d _ _ (λ x below. same _ (line-lt s d pos i x below)) (i / s) (le-of-suc-le-suc (line-index s d pos i h))
 
-  -- a table of k blocks only reads its own numbers
-  pub blocked-cong : (s d k : ℕ) (f g : ℕ → ℕ) → 0 < s →
-      ((j : ℕ) → j < k * (s * suc d) → f j ≡ g j) → (i : ℕ) → i < k * (s * suc d) → blocked line s d f i ≡ blocked line s d g i
-  unfolding blocked
-  blocked-cong s d k f g pos same i h =
-      local d _ _ (λ x below. same _ (read x below)) (i / s % suc d) (le-of-suc-le-suc (mod-lt (i / s) (zero-lt-suc d)))
-    where
-      read : (x : ℕ) → x ≤ d → i / (s * suc d) * (s * suc d) + x * s + i % s < k * (s * suc d)
-      read x below = rw add-assoc (digits-lt (div-lt-iff-lt-mul (size-pos s d pos) .1 h) (line-lt s d pos i x below))
-
   -- a box only reads its cells
   pub boxed-cong : (ds : List ℕ) (f g : ℕ → ℕ) → ((j : ℕ) → j < cells ds → f j ≡ g j) → (n : ℕ) → boxed line ds f n ≡ boxed line ds g n
   unfolding boxed cells

@@ -9,7 +9,7 @@ use mathlib.Core.Bool.{Bool, true, false, not, cond}
 use mathlib.Core.List.{List, [], _∷_, map}
 use lib.Dec.{T, ltb, ltb→lt, nltb→le}
 use lib.ListN.{length, drop}
-use lib.IntN.{ℤ, pos, negsuc, negℤ, subℕ, _+ℤ_, _-ℤ_, _*ℤ_, -ℤ-+ℤ-cancel, +ℤ-invl}
+use lib.IntN.{ℤ, pos, negsuc, negℤ, subℕ, _+ℤ_, _-ℤ_, _*ℤ_, -ℤ-+ℤ-cancel}
 use Rattle.meaning.specs.Tables.{at}
 use Rattle.meaning.specs.Sums.{sum}
 use Rattle.meaning.specs.Factorials.{falling}
@@ -122,11 +122,7 @@ module _ {m : ℕ} (positive : 0 < m) where
   pub residue-mul : (x y : ℤ) → Cong m (residue m (x *ℤ y)) (residue m x * residue m y)
   residue-mul x y = stands-unique (stands-residue (x *ℤ y)) (stands-mul (stands-residue x) (stands-residue y))
 
-  -- a negation and a difference, by their sums
-  pub residue-neg : (x : ℤ) → Cong m (residue m (negℤ x) + residue m x) 0
-  residue-neg x =
-      cong-trans (cong-sym (residue-add (negℤ x) x)) (cong-trans (cong-of-eq m (ap (residue m) (+ℤ-invl x))) (residue-pos 0))
-
+  -- a difference, by its sum
   pub residue-sub : (x y : ℤ) → Cong m (residue m (x -ℤ y) + residue m y) (residue m x)
   residue-sub x y = cong-trans (cong-sym (residue-add (x -ℤ y) y)) (cong-of-eq m (ap (residue m) (-ℤ-+ℤ-cancel x y)))
 

@@ -1,7 +1,6 @@
 -- The largest of the first entries.
-use mathlib.Core.Path.{_≡_, refl, _∙_, ap}
+use mathlib.Core.Path.{_≡_}
 use Prim.Native.Nat.{ℕ, zero, suc, max}
-use native.Mathlib.Nat.{max-zero, zero-max}
 use native.Mathlib.Omega.{arith}
 use Rattle.meaning.specs.Leaves.{largest}
 

@@ -3,8 +3,8 @@
 use mathlib.Core.Path.{_≡_, sym, ap, ap₂, _∙_}
 use mathlib.Core.Logic.{_↔_}
 use mathlib.Core.Bool.{Bool, cond}
-use Prim.Native.Nat.{ℕ, suc, _+_, _*_, _-_, _≤_, _<_}
-use native.Mathlib.Nat.{le-refl, le-of-lt, add-comm, zero-add}
+use Prim.Native.Nat.{ℕ, suc, _+_, _*_, _-_, _<_}
+use native.Mathlib.Nat.{le-refl, add-comm, zero-add}
 use native.Mathlib.Omega.{arith}
 use lib.Dec.{ltb}
 use borrow.Author.Tests.{lt-ltb, le-ltb}
@@ -63,17 +63,6 @@ solves-iff-kernel {m} {rows} {cols} {A} {x} p = (there, back)
               (cong-trans (k .vanishes i h)
               (cong-trans (cong-sym (less-one m (A i cols) p)) (cong-of-eq m (add-comm (A i cols * (m - 1)) (A i cols))))));
         }
-
--- systems with congruent entries have the same solutions
-pub solves-cong : {m rows cols : ℕ} {A B : ℕ → ℕ → ℕ} {x : ℕ → ℕ}
-    → ((i j : ℕ) → i < rows → j ≤ cols → Cong m (A i j) (B i j)) → Solves m rows cols A x → Solves m rows cols B x
-solves-cong {m} {rows} {cols} {A} {B} {x} h s =
-    record {
-      holds =
-          λ i p.
-          cong-trans (sum-cong cols (λ c q. cong-mul-right (x c) (cong-sym (h i c p (le-of-lt q)))))
-          (cong-trans (s .holds i p) (h i cols p (le-refl cols)));
-    }
 
 -- ---- rows
 

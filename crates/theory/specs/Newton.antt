@@ -3,11 +3,11 @@
 -- uniqueness are inductions by that step for all functions at once, with the first difference in place of the function.
 use mathlib.Core.Path.{_≡_, refl, sym, _∙_}
 use Prim.Native.Nat.{ℕ, zero, suc, _+_, _*_, _≤_, _<_, zero-le, suc-le-suc}
-use native.Mathlib.Nat.{not-suc-le-zero, le-of-suc-le-suc, le-refl, le-step, mul-pos, add-comm}
+use native.Mathlib.Nat.{not-suc-le-zero, le-of-suc-le-suc, le-step, add-comm}
 use native.Mathlib.Omega.{arith}
 use Rattle.meaning.specs.Sums.{sum}
-use Rattle.meaning.specs.Differences.{diff, diffs, newton}
-use Rattle.theory.specs.Congruence.{Cong, cong-of-eq, cong-refl, cong-sym, cong-trans, cong-add, cong-add-cancel-cong, cong-of-mul, minus-add, minus-cong, cong-minus-of-add}
+use Rattle.meaning.specs.Differences.{diff, diffs}
+use Rattle.theory.specs.Congruence.{Cong, cong-of-eq, cong-sym, cong-trans, cong-add, cong-add-cancel-cong, minus-add}
 use Rattle.theory.specs.Sums.{sum-add, sum-eq, sum-zero}
 use Rattle.theory.specs.Binomials.{choose}
 
@@ -64,23 +64,3 @@ module _ {m : ℕ} (pos : 0 < m) where
           cong-add-cancel-cong (h x (le-step q))
           (cong-trans (diff-add v x)
           (cong-trans (h (suc x) (suc-le-suc q)) (cong-of-eq m (series-suc (suc d) A x ∙ add-comm (series (suc (suc d)) A x) _))))
-
-  -- differences of order n at x depend on the function at x .. x + n, modulo m
-  pub diffs-cong : (n x : ℕ) {v w : ℕ → ℕ} → ((i : ℕ) → x ≤ i → i ≤ x + n → Cong m (v i) (w i)) → Cong m (diffs m n v x) (diffs m n w x)
-  unfolding diffs
-  diffs-cong zero x h = h x (le-refl x) (omega arith)
-  diffs-cong (suc n) x {v} {w} h =
-      diffs-cong n x (λ i p q. cong-of-eq m (minus-cong pos (h (suc i) (omega arith) (omega arith)) (h i p (omega arith))))
-
-  -- one line's differences depend on the line modulo m
-  pub newton-cong : (d e : ℕ) {v w : ℕ → ℕ} → ((x : ℕ) → x ≤ d → Cong m (v x) (w x)) → e ≤ d → Cong m (newton m d v e) (newton m d w e)
-  unfolding newton
-  newton-cong d e h p = diffs-cong e 0 (λ i q r. h i (omega arith))
-
--- differences modulo a multiple of d are, modulo d, those modulo d
-pub diffs-of-mul : (d e n : ℕ) (v : ℕ → ℕ) (x : ℕ) → 0 < d → 0 < e → Cong d (diffs (d * e) n v x) (diffs d n v x)
-unfolding diffs
-diffs-of-mul d e zero v x p q = cong-refl (v x)
-diffs-of-mul d e (suc n) v x p q =
-    cong-trans (diffs-of-mul d e n (diff (d * e) v) x p q)
-    (diffs-cong p n x (λ i r s. cong-minus-of-add (v i) p (cong-of-mul d e (diff-add (mul-pos p q) v i))))

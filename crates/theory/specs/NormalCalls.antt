@@ -1,17 +1,14 @@
 -- Reducing what the conversion to falling factorials left gives the normal form.
-use mathlib.Core.Path.{_≡_, refl, sym, _∙_, ap, ap₂}
+use mathlib.Core.Path.{_≡_, sym, _∙_, ap, ap₂}
 use mathlib.Core.Bool.{Bool, false, cond}
 use mathlib.Core.List.{List}
-use Prim.Native.Nat.{ℕ, _%_, _^_}
+use Prim.Native.Nat.{ℕ, _^_}
 use borrow.Author.Tests.{eq-eqb}
-use lib.Dec.{eqb}
 use lib.ListN.{length}
-use Rattle.meaning.specs.Tables.{tabulate, at}
-use Rattle.meaning.specs.Boxes.{cells, digits}
+use Rattle.meaning.specs.Boxes.{cells}
 use Rattle.meaning.specs.Values.{bound, boxReduced}
 use Rattle.meaning.specs.Conversions.{fallingBox, normalBox}
-use Rattle.meaning.specs.Replies.{between}
-use Rattle.meaning.specs.Settings.{settingsNumber, callNumber, first}
+use Rattle.meaning.specs.Settings.{callNumber, first}
 use Rattle.meaning.specs.Calls.{inOutNumber, convertLeft, reduceNumber, reduceLeft, left}
 use Rattle.theory.specs.Tables.{length-tabulate}
 use Rattle.theory.specs.AcceptedCalls.{ready}

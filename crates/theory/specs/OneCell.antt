@@ -6,7 +6,7 @@ use mathlib.Core.Logic.{_↔_}
 use Prim.Native.Nat.{ℕ, _*_, _/_, _%_, _<_}
 use native.Mathlib.Nat.{div-add-mod', mul-mod-right, mul-assoc, mul-right-comm}
 use native.Mathlib.Omega.{arith}
-use Rattle.theory.specs.Congruence.{Cong, cong-of-eq, cong-sym, cong-trans, cong-mul-left, cong-mul-right, cong-of-mul, cong-mul-mul, mod-cong}
+use Rattle.theory.specs.Congruence.{Cong, cong-of-eq, cong-sym, cong-trans, cong-mul-left, cong-mul-right, cong-of-mul, cong-mul-mul}
 
 -- the common part g of modulus and factor, what is left of each, and an inverse
 pub record OneCell (m f : ℕ) : Type 0 where
@@ -81,7 +81,3 @@ module _ {m f : ℕ} (o : OneCell m f) where
 
       back : (D % o .g ≡ 0) × (c % o .h ≡ (D / o .g * o .u) % o .h) → (c * f) % m ≡ D % m
       back e = cong-trans (mul-factor-solved c (D / o .g) .1 (record { same = e .1 })) (cong-of-eq m (sym (whole (e .0)))) .same
-
-  -- a coefficient may be kept modulo h
-  pub mod-mul-factor : (c : ℕ) → (c % o .h * f) % m ≡ (c * f) % m
-  mod-mul-factor c = mul-factor-same (c % o .h) c .1 (mod-cong (o .h) c) .same

@@ -12,7 +12,7 @@ use Rattle.meaning.specs.Inverses.{inverse}
 use Rattle.meaning.specs.Elimination.{quotient}
 use Rattle.theory.specs.Congruence.{Cong, cong-trans, cong-sym, mod-cong}
 use Rattle.theory.specs.Inverses.{inverse-serves}
-use Rattle.theory.specs.OneCell.{OneCell, mul-factor-iff, mul-factor-same}
+use Rattle.theory.specs.OneCell.{OneCell, mul-factor-iff}
 use Rattle.theory.specs.Trailing.{twosIn-le, twosIn-whole, twosIn-left-odd}
 
 -- the cell of a factor P at width w
@@ -79,17 +79,8 @@ equation-iff w P E v = (there, back)
 pub quotient-mul : (w P E : ℕ) → E % 2 ^ twosIn w P ≡ 0 → Cong (2 ^ w) (quotient w (twosIn w P) P E * P) E
 quotient-mul w P E h = equation-iff w P E (quotient w (twosIn w P) P E) .1 (h, record { same = refl })
 
--- where there is a solution, 2^t divides E
-pub divides-of-equation : (w P E v : ℕ) → Cong (2 ^ w) (v * P) E → E % 2 ^ twosIn w P ≡ 0
-divides-of-equation w P E v h = equation-iff w P E v .0 h .0
-
 -- the quotient is the only solution below 2^(w - t)
 pub quotient-unique : (w P E v : ℕ) → v < 2 ^ (w - twosIn w P) → Cong (2 ^ w) (v * P) E → v ≡ quotient w (twosIn w P) P E
 quotient-unique w P E v s h =
     let r = equation-iff w P E v .0 h .1 in
     sym (mod-eq-of-lt s) ∙ r .same ∙ mod-eq-of-lt (quotient-lt w (twosIn w P) P E)
-
--- products with P are the same modulo 2^w exactly for numbers that are the same modulo 2^(w - t)
-pub mul-pivot-same : (w P a b : ℕ) → Cong (2 ^ w) (a * P) (b * P) ↔ Cong (2 ^ (w - twosIn w P)) a b
-unfolding pivotCell
-mul-pivot-same w P a b = mul-factor-same (pivotCell w P) a b

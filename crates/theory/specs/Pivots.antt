@@ -1,9 +1,9 @@
 -- The pivot of a column is the first of the lowest rows; it is unused, and its power of two divides the entry of every unused row.
 use mathlib.Core.Path.{_≡_, refl, sym, ap, subst, _∙_}
-use mathlib.Core.Logic.{_⊎_, inl, inr, ⊎-elim}
+use mathlib.Core.Logic.{_⊎_, inl, inr}
 use mathlib.Core.Bool.{Bool, true, false, cond}
 use Prim.Native.Nat.{ℕ, zero, suc, _%_, _^_, _≤_, _<_}
-use native.Mathlib.Nat.{not-suc-le-zero, le-of-suc-le-suc, le-refl, le-trans, le-of-lt, lt-of-lt-of-le, lt-irrefl, eq-or-lt-of-le, zero-mod}
+use native.Mathlib.Nat.{not-suc-le-zero, le-refl, le-trans, le-of-lt, lt-of-lt-of-le, lt-irrefl, zero-mod}
 use native.Mathlib.Omega.{arith}
 use lib.Dec.{ltb}
 use borrow.Author.Tests.{ltb-true, ltb-false}

@@ -1,5 +1,5 @@
 -- The test of a range, from what is known of the number.
-use mathlib.Core.Path.{_≡_, refl, sym, _∙_, ap, ap₂}
+use mathlib.Core.Path.{_≡_, sym, _∙_, ap, ap₂}
 use mathlib.Core.Bool.{Bool, true, false, _&&_, and-false, true≢false}
 use Prim.Native.Nat.{ℕ, _≤_, _<_}
 use borrow.Author.Tests.{le-leb, lt-leb, leb-true}
@@ -22,10 +22,3 @@ le-of-between low high n e = leb-true n high (right (leb low n) (leb n high) e)
     right : (a b : Bool) → (a && b) ≡ true → b ≡ true
     right true b e = e
     right false b e = absurd (true≢false (sym e))
-
-pub ge-of-between : (low high n : ℕ) → between low high n ≡ true → low ≤ n
-ge-of-between low high n e = leb-true low n (left (leb low n) (leb n high) e)
-  where
-    left : (a b : Bool) → (a && b) ≡ true → a ≡ true
-    left true b e = refl
-    left false b e = e

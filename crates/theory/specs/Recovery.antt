@@ -12,7 +12,7 @@ use Rattle.meaning.specs.Factorials.{falling}
 use Rattle.meaning.specs.Boxes.{Within}
 use Rattle.meaning.specs.Values.{product}
 use Rattle.meaning.specs.Differences.{differences}
-use Rattle.theory.specs.Congruence.{Cong, cong-of-eq, cong-sym, cong-trans, mod-cong}
+use Rattle.theory.specs.Congruence.{Cong, cong-of-eq, cong-sym, cong-trans}
 use Rattle.theory.specs.Binomials.{choose, falling-eq-factorial-mul-choose}
 use Rattle.theory.specs.Boxes.{length-within, boxSum-eq}
 use Rattle.theory.specs.Evaluation.{eval, eval-cong, differences-expansion, differences-unique}
@@ -58,10 +58,6 @@ module _ {m : ℕ} (pos : 0 < m) (o : (es : List ℕ) → OneCell m (factorials 
       term es w =
           cong-trans (cong-of-eq m (mul-comm (factorials es) (c es)))
           (cong-trans (mul-factor-same (o es) (c es) (d es) .1 (h es w)) (cong-of-eq m (mul-comm (d es) (factorials es))))
-
-  -- so coefficients may be kept modulo that
-  pub eval-falling-mod : (c : List ℕ → ℕ) (xs : List ℕ) → Cong m (eval falling ds (λ es. c es % o es .h) xs) (eval falling ds c xs)
-  eval-falling-mod c xs = eval-falling-cong (λ es. c es % o es .h) c xs (λ es w. mod-cong (o es .h) (c es))
 
   -- where every difference passes, the solutions agree
   pub solution-fits : (v : List ℕ → ℕ) → ((es : List ℕ) → Within ds es → differences m ds v es % o es .g ≡ 0)

@@ -10,8 +10,7 @@ use Rattle.meaning.specs.Differences.{minus}
 use Rattle.meaning.specs.Elimination.{quotient, State, height, chosen, step}
 use Rattle.theory.specs.Congruence.{cong-of-eq, cong-trans, minus-add, minus-lt, eq-of-cong}
 use Rattle.theory.specs.Pivots.{Missing}
-use Rattle.theory.specs.Elimination.{kept, multiplier, step-used, step-kept, step-cleared, multiplier-missing}
-use Rattle.theory.specs.Echelon.{Echelon, or-left-false, echelon-step}
+use Rattle.theory.specs.Elimination.{kept, multiplier, step-kept, step-cleared, multiplier-missing}
 
 -- the quotient of 0 is 0
 pub quotient-zero : (w t P : ℕ) → quotient w t P 0 ≡ 0
@@ -43,20 +42,3 @@ module _ (w rows : ℕ) (s : State) (c i : ℕ) where
   pub step-missing : Missing rows w (height w s c) rows (chosen w rows s c) → (j : ℕ) → s .entry i j < 2 ^ w
       → step w rows s c .entry i j ≡ s .entry i j
   step-missing m = step-same (multiplier-missing w rows s c m i)
-
-  -- a row with 0 in the column stays
-  pub step-zero : s .entry i c ≡ 0 → (j : ℕ) → s .entry i j < 2 ^ w → step w rows s c .entry i j ≡ s .entry i j
-  step-zero z =
-      step-same
-      (ap (quotient w (chosen w rows s c .twos) (s .entry (chosen w rows s c .row) c)) z ∙ quotient-zero w _ _)
-
--- the columns done stay in every row
-pub step-left : (w rows : ℕ) (s : State) (c : ℕ) → Echelon w rows s c → (i : ℕ) → i < rows → (j : ℕ) → j < c
-    → step w rows s c .entry i j ≡ s .entry i j
-step-left w rows s c h i l j k = go (kept w rows s c i) refl
-  where
-    go : (b : Bool) → kept w rows s c i ≡ b → step w rows s c .entry i j ≡ s .entry i j
-    go true e = step-kept w rows s c i j e
-    go false e =
-        echelon-step w rows s c h .cleared i l (step-used w rows s c i ∙ e) j (omega arith)
-        ∙ sym (h .cleared i l (or-left-false _ _ e) j k)

@@ -4,12 +4,12 @@ use mathlib.Core.Bool.{Bool, true, false, _&&_, cond}
 use borrow.Author.Tests.{ltb-true, ltb-false}
 use mathlib.Core.List.{List, [], _∷_}
 use Prim.Native.Nat.{ℕ, zero, suc, _+_, _≤_, _<_}
-use native.Mathlib.Nat.{le-of-suc-le-suc, not-suc-le-zero, eq-or-lt-of-le, ne-of-lt, ne-of-gt, le-refl, lt-irrefl}
+use native.Mathlib.Nat.{le-of-suc-le-suc, not-suc-le-zero, eq-or-lt-of-le, ne-of-lt, ne-of-gt}
 use native.Mathlib.Numerals.{add-one}
 use native.Mathlib.Omega.{arith}
 use mathlib.Core.Logic.{_⊎_, ⊎-elim}
 use lib.Dec.{T, eqb, eqb→eq, ltb}
-use lib.ListN.{length, getD, set, length-set, replicate}
+use lib.ListN.{length, set, length-set, replicate}
 use lib.Seq.{ext-getD, getD-set-same, getD-set-other}
 use Rattle.meaning.specs.Tables.{tabulate, at}
 

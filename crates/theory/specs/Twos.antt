@@ -3,7 +3,7 @@
 -- number so. Legendre's count goes by induction: from k to k + 1 the ones of k and the twos of k + 1 change places (`ones-suc`).
 use mathlib.Core.Path.{_≡_, refl, sym, _∙_, ap, ap₂}
 use mathlib.Core.Logic.{_⊎_, inl, inr, ⊎-elim}
-use Prim.Native.Nat.{ℕ, zero, suc, _+_, _*_, _-_, _/_, _%_, _^_, _≤_, _<_}
+use Prim.Native.Nat.{ℕ, zero, suc, _+_, _*_, _-_, _/_, _%_, _^_, _<_}
 use native.Mathlib.Nat.{pow-succ', mul-assoc, one-mul, mul-div-cancel-left, mul-mul-mul-comm, le-of-suc-le-suc, not-suc-le-zero, le-mul-of-pos-right, zero-lt-suc, mod-lt, add-comm, lt-of-lt-of-le, lt-of-not-le, lt-irrefl}
 use native.Mathlib.Numerals.{add-one}
 use native.Mathlib.Omega.{arith}
@@ -109,9 +109,6 @@ module _ (m n : ℕ) (p : 0 < m) (q : 0 < n) where
 
   pub twos-mul : twos (m * n) ≡ twos m + twos n
   twos-mul = ap twos parts-mul ∙ twos-eq _ _ (odd-mul _ _ (oddPart-odd m p) (oddPart-odd n q))
-
-  pub oddPart-mul : oddPart (m * n) ≡ oddPart m * oddPart n
-  oddPart-mul = ap oddPart parts-mul ∙ oddPart-eq (twos m + twos n) _ (odd-mul _ _ (oddPart-odd m p) (oddPart-odd n q))
 
 -- ---- counting zeros
 

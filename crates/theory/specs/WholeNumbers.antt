@@ -100,16 +100,6 @@ module _ (w : ℕ) (ds : List ℕ) where
   pub polynomial-of-accepts : (v : List ℕ) → T (accepts w ds v) → PolynomialAgrees (2 ^ w) ds (powerPolynomial (2 ^ w) ds (answer w ds v)) v
   polynomial-of-accepts v t = powerPolynomial-agrees-iff (pow-pos w) ds (answer w ds v) v .1 (answer-agrees w ds v t)
 
-  -- accepted is that some polynomial agrees
-  pub accepts-iff-polynomial : (v : List ℕ) → T (accepts w ds v) ↔ ((p : Polynomial ds) × PolynomialAgrees (2 ^ w) ds p v)
-  accepts-iff-polynomial v =
-      (λ t. (powerPolynomial (2 ^ w) ds (answer w ds v), polynomial-of-accepts v t), λ s. accepts-of-polynomial (s .0) v (s .1))
-
-  -- refused is that none does
-  pub refuses-iff-polynomial : (v : List ℕ) → (T (accepts w ds v) → ⊥) ↔ ((p : Polynomial ds) → PolynomialAgrees (2 ^ w) ds p v → ⊥)
-  refuses-iff-polynomial v =
-      (λ r p a. r (accepts-of-polynomial p v a), λ r t. r (powerPolynomial (2 ^ w) ds (answer w ds v)) (polynomial-of-accepts v t))
-
   -- the answer has at every whole-number point the residue of every polynomial that agrees
   pub answer-residue : (p : Polynomial ds) (v : List ℕ) (zs : List ℤ) → PolynomialAgrees (2 ^ w) ds p v
       → residue (2 ^ w) (boxAt ds (answer w ds v) zs) ≡ residue (2 ^ w) (polynomialAt ds p zs)

@@ -9,7 +9,7 @@ use native.Mathlib.Omega.{arith}
 use lib.Pow.{pow-pos, pow-add}
 use Rattle.meaning.specs.Tables.{tabulate, at}
 use Rattle.meaning.specs.Boxes.{cells, digits, cell, along, Within, none, next}
-use Rattle.meaning.specs.Differences.{minus, diff, diffs, newton, differences, grid}
+use Rattle.meaning.specs.Differences.{diff, diffs, newton, differences, grid}
 use Rattle.meaning.specs.Recovery.{difference, every, divides, coefficient, accepts, answer}
 use Rattle.theory.specs.Congruence.{Cong, cong-sym, cong-trans, mod-cong, eq-of-cong, minus-lt}
 use Rattle.theory.specs.Boxes.{digits-within}

@@ -1,6 +1,6 @@
 -- Numbers of 64 bits: what a mask keeps, and a product put together from 32-bit halves.
 use mathlib.Core.Path.{_≡_, sym, _∙_, ap, ap₂, subst}
-use Prim.Native.Nat.{ℕ, suc, _+_, _*_, _-_, _/_, _%_, _^_, _≤_, _<_, min}
+use Prim.Native.Nat.{ℕ, _+_, _*_, _-_, _/_, _%_, _^_, _≤_, _<_, min}
 use native.Mathlib.Nat.{mul-add, add-mul, mul-assoc, mul-comm, div-add-mod', min-le-right, min-eq-left, mod-eq-of-lt, one-mul, mod-lt, lt-of-le-of-lt, le-of-lt, mul-le-mul-left, mul-lt-mul-of-pos-right}
 use native.Mathlib.Omega.{arith}
 use lib.Bits.{bitAnd, and-mask}

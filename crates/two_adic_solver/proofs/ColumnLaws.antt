@@ -7,8 +7,8 @@ use Prim.Native.Nat.{ℕ, zero, suc, _+_, _*_, _≤_, _<_, zero-le}
 use native.Mathlib.Nat.{le-refl, ne-of-lt, lt-irrefl}
 use native.Mathlib.Numerals.{add-one}
 use native.Mathlib.Omega.{arith}
-use lib.Dec.{ltb, eqb}
-use lib.ListN.{length, getD, set, length-set}
+use lib.Dec.{ltb}
+use lib.ListN.{length, getD, set}
 use lib.Seq.{getD-set-same, getD-set-other}
 use borrow.Author.Tests.{ne-eqb}
 use Rattle.meaning.specs.Tables.{at}
@@ -17,7 +17,7 @@ use Rattle.meaning.specs.Elimination.{State, Lowest, lowest, height, chosen, st
 use Rattle.theory.specs.Every.{last}
 use Rattle.theory.specs.Pivots.{Found, Missing, lowest-cases, chosen-cases}
 use Rattle.theory.specs.Elimination.{kept, step-used, step-pivot-same, step-pivot-other, kept-pivot}
-use Rattle.theory.specs.Echelon.{Echelon, echelon-step}
+use Rattle.theory.specs.Echelon.{echelon-step}
 use Rattle.theory.specs.StepLaws.{step-missing}
 use Rattle.theory.specs.ShownStates.{Shows}
 use Rattle.two_adic_solver.specs.Rows.{heightOf}

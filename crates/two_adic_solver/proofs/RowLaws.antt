@@ -3,12 +3,12 @@ use mathlib.Core.Path.{_≡_, refl, sym, ap, ap₂, _∙_}
 use mathlib.Core.Bool.{Bool, true, false, cond, _&&_}
 use mathlib.Core.List.{List}
 use mathlib.Core.Logic.{⊎-elim, _⊎_, inl, inr}
-use Prim.Native.Nat.{ℕ, zero, suc, _+_, _*_, _-_, _/_, _%_, _^_, _≤_, _<_, min}
+use Prim.Native.Nat.{ℕ, _+_, _*_, _-_, _%_, _^_, _≤_, _<_, min}
 use native.Mathlib.Nat.{not-suc-le-zero, le-refl, ne-of-lt, ne-of-gt, eq-or-lt-of-le, le-of-suc-le-suc, le-of-lt, le-antisymm, min-eq-left, min-eq-right}
 use native.Mathlib.Numerals.{add-one}
 use native.Mathlib.Decide.{decLe}
 use native.Mathlib.Omega.{arith}
-use lib.Bits.{bitAnd, and-mask}
+use lib.Bits.{bitAnd}
 use lib.Dec.{ltb}
 use borrow.Author.Tests.{eq-eqb}
 use Rattle.meaning.specs.Inverses.{inverse}
@@ -30,7 +30,7 @@ use Rattle.meaning.specs.Tables.{at}
 use Rattle.meaning.specs.Differences.{minus}
 use Rattle.meaning.specs.Elimination.{Lowest, lowest}
 use Rattle.theory.specs.Congruence.{cong-of-eq, mod-cong}
-use Rattle.theory.specs.Words.{minus-masked, low-bits, cong-of-pow}
+use Rattle.theory.specs.Words.{minus-masked, cong-of-pow}
 use Rattle.theory.specs.Congruence.{minus-cong}
 use Rattle.theory.specs.Parts.{part, put, length-part, at-part, length-put, at-put-before, at-put-within, at-put-after}
 use Rattle.two_adic_solver.specs.Rows.{Subtracted}

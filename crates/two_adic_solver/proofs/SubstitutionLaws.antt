@@ -4,13 +4,12 @@ use mathlib.Core.Bool.{Bool, true, false, cond}
 use mathlib.Core.List.{List}
 use mathlib.Core.Logic.{⊎-elim, _⊎_}
 use Prim.Native.Nat.{ℕ, zero, suc, _+_, _*_, _-_, _/_, _%_, _^_, _≤_, _<_, min}
-use native.Mathlib.Nat.{min-eq-left, suc-mul, mul-le-mul-right, le-refl, le-of-suc-le-suc, not-suc-le-zero, eq-or-lt-of-le}
+use native.Mathlib.Nat.{min-eq-left, suc-mul, mul-le-mul-right, le-refl, le-of-suc-le-suc, eq-or-lt-of-le}
 use native.Mathlib.Numerals.{add-one}
-use native.Mathlib.Decide.{decLe}
 use native.Mathlib.Omega.{arith}
 use lib.Dec.{T, eqb}
 use lib.Pow.{pow-pos}
-use lib.ListN.{length, set, length-set}
+use lib.ListN.{length, set}
 use lib.Seq.{getD-set-same, getD-set-other}
 use borrow.Author.Tests.{eq-eqb, ne-eqb}
 use Rattle.meaning.specs.Tables.{at, tabulate}
@@ -24,7 +23,7 @@ use Rattle.theory.specs.Congruence.{cong-add, mod-cong, cong-of-eq, minus-cong}
 use Rattle.theory.specs.Words.{cong-of-pow}
 use Rattle.theory.specs.Sums.{sum-last, sum-eq}
 use Rattle.theory.specs.Every.{every-iff}
-use Rattle.theory.specs.Tables.{length-tabulate, at-tabulate}
+use Rattle.theory.specs.Tables.{length-tabulate}
 use Rattle.theory.specs.BackSubstitution.{put, backward-eq, backward-step, dividesRest-eq, dividesRest-backward}
 use Rattle.theory.specs.Parts.{part, length-part, at-part}
 use Rattle.theory.specs.ShownStates.{Shows}

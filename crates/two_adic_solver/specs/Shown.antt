@@ -2,8 +2,8 @@
 use mathlib.Core.Path.{_≡_}
 use mathlib.Core.Bool.{Bool, false, cond}
 use mathlib.Core.List.{List}
-use Prim.Native.Nat.{ℕ, _*_, _^_, _≤_, _<_}
-use lib.ListN.{length, getD}
+use Prim.Native.Nat.{ℕ, _*_, _^_, _<_}
+use lib.ListN.{getD}
 use lib.Dec.{eqb, ltb}
 use Rattle.meaning.specs.Tables.{at}
 use Rattle.meaning.specs.Differences.{minus}

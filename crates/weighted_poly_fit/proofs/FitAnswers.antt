@@ -2,7 +2,7 @@
 use mathlib.Core.Path.{_≡_, refl, sym, ap, ap₂, _∙_}
 use mathlib.Core.Bool.{Bool, true, false, _&&_, _||_, cond, false≢true}
 use mathlib.Core.List.{List, [], _∷_}
-use Prim.Native.Nat.{ℕ, zero, suc, pred, _*_, _%_, _/_, _≤_, _<_, suc-le-suc}
+use Prim.Native.Nat.{ℕ, suc, pred, _*_, _%_, _/_, _<_, suc-le-suc}
 use native.Mathlib.Nat.{zero-lt-suc, suc-ne-zero, mul-div-cancel}
 use native.Mathlib.Omega.{arith}
 use borrow.Author.Tests.{lt-ltb, le-ltb, eq-eqb}

@@ -1,14 +1,12 @@
 -- The matrix as it is filled is the system of the fit, and the exponents of the columns are as low as the degrees.
-use mathlib.Core.Path.{_≡_, refl, sym, ap, ap₂, _∙_}
-use mathlib.Core.Bool.{Bool, true, cond}
-use mathlib.Core.List.{List, [], _∷_}
-use Prim.Native.Nat.{ℕ, zero, suc, _+_, _*_, _%_, _^_, _≤_, _<_}
+use mathlib.Core.Path.{_≡_, sym, ap, _∙_}
+use mathlib.Core.Bool.{Bool, cond}
+use mathlib.Core.List.{List, []}
+use Prim.Native.Nat.{ℕ, zero, suc, _*_, _%_, _^_, _≤_, _<_}
 use native.Mathlib.Nat.{not-suc-le-zero, le-of-suc-le-suc, lt-of-le-of-lt}
-use native.Mathlib.Omega.{arith}
 use borrow.Author.Tests.{lt-ltb}
-use lib.Dec.{ltb}
 use lib.ListN.{length, take, drop, getD}
-use Rattle.meaning.specs.Tables.{at, tabulate}
+use Rattle.meaning.specs.Tables.{at}
 use Rattle.meaning.specs.Factorials.{falling}
 use Rattle.meaning.specs.Boxes.{digits, Within, none, next}
 use Rattle.meaning.specs.Values.{product}
@@ -16,8 +14,7 @@ use Rattle.meaning.specs.Elimination.{joined}
 use Rattle.meaning.specs.Fit.{columns, fitSystem}
 use Rattle.theory.specs.Boxes.{length-within}
 use Rattle.theory.specs.Columns.{in-columns-iff, in-getD}
-use Rattle.theory.specs.Tables.{tabulate-cong}
-use Rattle.theory.specs.MatrixTables.{flat, flat-entry, places, at-joined}
+use Rattle.theory.specs.MatrixTables.{places, at-joined}
 use Rattle.weighted_poly_fit.specs.Powers.{weighed}
 use Rattle.weighted_poly_fit.proofs.Listed.{length-columns-joined}
 use Rattle.weighted_poly_fit.proofs.Coordinates.{part-joined}
@@ -54,18 +51,3 @@ module _ (ds : List ℕ) (most : ℕ) where
         ∙ ap
         (λ (b : Bool). cond b (at weights i * product falling (length gs) (digits gs i) (getD (columns ds most) c [])) (at targets i) % 2 ^ w)
         (sym (lt-ltb c (length (columns ds most)) h))
-
-    -- and the matrix is its matrix
-    pub matrix-system : (rows : ℕ)
-        → tabulate (rows * length (columns ds most)) (flat (length (columns ds most)) (weighed w gs (joined (columns ds most)) weights))
-        ≡ tabulate (rows * length (columns ds most)) (flat (length (columns ds most)) (fitSystem w gs (columns ds most) weights targets))
-    matrix-system rows =
-        tabulate-cong (rows * length (columns ds most)) _ _
-        (places rows (length (columns ds most))
-        (λ n.
-        flat (length (columns ds most)) (weighed w gs (joined (columns ds most)) weights) n
-        ≡ flat (length (columns ds most)) (fitSystem w gs (columns ds most) weights targets) n)
-        (λ i c p q.
-        flat-entry (length (columns ds most)) (weighed w gs (joined (columns ds most)) weights) i c q
-        ∙ weighed-system i c q
-        ∙ sym (flat-entry (length (columns ds most)) (fitSystem w gs (columns ds most) weights targets) i c q)))

@@ -3,7 +3,7 @@ use mathlib.Core.Path.{_≡_, refl, sym, ap, ap₂, _∙_, fun-ext}
 use mathlib.Core.Bool.{Bool, true, false, cond}
 use mathlib.Core.List.{List, []}
 use Prim.Native.Nat.{ℕ, _+_, _*_, _%_, _^_, _≤_, _<_}
-use native.Mathlib.Nat.{mod-mod, mod-eq-of-lt, zero-mul, mul-le-mul-right, le-of-eq, le-trans}
+use native.Mathlib.Nat.{mod-mod, zero-mul, mul-le-mul-right}
 use native.Mathlib.Omega.{arith}
 use borrow.Author.Tests.{ltb-true, ltb-false, lt-ltb}
 use lib.Dec.{ltb}
@@ -16,7 +16,6 @@ use Rattle.meaning.specs.Elimination.{joined, system}
 use Rattle.meaning.specs.Fit.{columns, fitSystem}
 use Rattle.theory.specs.Tables.{at-tabulate, length-tabulate}
 use Rattle.theory.specs.MatrixTables.{flat, at-matrix}
-use Rattle.theory.specs.FitLaws.{fitSystem-lt}
 use Rattle.weighted_poly_fit.specs.Powers.{weighed}
 use Rattle.weighted_poly_fit.proofs.FitMatrix.{weighed-system}
 

@@ -2,13 +2,10 @@
 use Rattle.byte_calls.proofs.recover.Statement.{statement}
 use borrow.Author.Needs.{needs}
 use borrow.Author.Tests.{not-true, not-false, eqb-true}
-use mathlib.Core.Path.{_≡_, refl, sym, _∙_, ap, ap₂}
+use mathlib.Core.Path.{_≡_, sym, _∙_, ap, ap₂}
 use mathlib.Core.Bool.{true, _&&_}
-use mathlib.Core.List.{List}
-use Prim.Native.Nat.{ℕ, _*_, _≤_}
+use Prim.Native.Nat.{_*_}
 use denote.Ref.{now}
-use lib.ListN.{length, take, replicate}
-use lib.Seq.{length-take-le}
 use Rattle.meaning.specs.Settings.{cube}
 use Rattle.byte_calls.specs.Bytes.{decoded}
 use Rattle.byte_calls.specs.Calls.{holds}

@@ -1,7 +1,7 @@
 -- Support and values are decoded, recovery answers on them, and what it leaves is encoded.
 use Rattle.byte_calls.proofs.recover_in.Statement.{statement}
 use borrow.Author.Needs.{needs}
-use mathlib.Core.Path.{_≡_, _∙_, ap, ap₂}
+use mathlib.Core.Path.{_∙_, ap, ap₂}
 use mathlib.Core.List.{List}
 use Prim.Native.Nat.{ℕ}
 use denote.Ref.{now}

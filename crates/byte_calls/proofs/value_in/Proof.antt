@@ -1,7 +1,7 @@
 -- Support, coefficients and point are decoded, and the value is the one of what they hold.
 use Rattle.byte_calls.proofs.value_in.Statement.{statement}
 use borrow.Author.Needs.{needs}
-use mathlib.Core.Path.{_≡_, _∙_, ap, ap₂}
+use mathlib.Core.Path.{_∙_, ap, ap₂}
 use mathlib.Core.List.{List}
 use Prim.Native.Nat.{ℕ}
 use Rattle.meaning.specs.Replies.{Reply}

@@ -3,7 +3,7 @@ use Prim.Native.Nat.{ℕ, max}
 use native.Mathlib.Numerals.{add-one}
 use borrow.Author.Needs.{needs}
 use native.Mathlib.Omega.{arith}
-use mathlib.Core.Path.{_≡_, refl, sym, _∙_, ap, ap₂}
+use mathlib.Core.Path.{_≡_, refl, sym, _∙_, ap}
 use Prim.Native.Nat.{_-_, _≤_, zero-le}
 use Rattle.meaning.specs.Tables.{at}
 use Rattle.meaning.specs.Leaves.{largest}

@@ -6,11 +6,11 @@ use mir.Syntax.{w8}
 use mir.Val.{Fits}
 use borrow.Author.Needs.{needs}
 use native.Mathlib.Omega.{arith}
-use mathlib.Core.Path.{_≡_, refl, sym, _∙_, ap, ap₂}
+use mathlib.Core.Path.{_≡_, refl, sym, _∙_, ap}
 use Prim.Native.Nat.{_-_, _≤_, zero-le}
 use Rattle.meaning.specs.Tables.{at}
 use Rattle.meaning.specs.Sums.{sum}
-use Rattle.theory.specs.Sums.{sum-last, sum-le}
+use Rattle.theory.specs.Sums.{sum-last}
 use Rattle.mono.proofs.exponent_sum.Tie as tie
 use Rattle.mono.proofs.exponent_sum.Reads as reads
 use Rattle.mono.proofs.exponent_sum.Lts as lts

@@ -1,7 +1,6 @@
 use Rattle.mono.proofs.factorial_twos.Statement.{statement}
 use Prim.Native.Nat.{ℕ, _+_, _*_}
 use native.Mathlib.Numerals.{add-one}
-use lib.ListN.{getD}
 use mir.Syntax.{w8}
 use mir.Val.{Fits}
 use Rattle.theory.specs.Twos.{legendre}
@@ -12,7 +11,7 @@ use Prim.Native.Nat.{_-_, _≤_, zero-le}
 use Rattle.meaning.specs.Tables.{at}
 use Rattle.meaning.specs.Sums.{sum}
 use Rattle.meaning.specs.Factorials.{factorial, twos}
-use Rattle.theory.specs.Sums.{sum-last, sum-le}
+use Rattle.theory.specs.Sums.{sum-last}
 use Rattle.mono.proofs.factorial_twos.Tie as tie
 use Rattle.mono.proofs.factorial_twos.Reads as reads
 use Rattle.mono.proofs.factorial_twos.Lts as lts

@@ -1,17 +1,11 @@
 use borrow.Author.Needs.{needs}
-use mathlib.Core.Path.{_≡_, _∙_, sym, ap, ap₂}
-use mathlib.Core.Bool.{Bool, true, false, _&&_, cond}
-use Prim.Native.Nat.{ℕ, _≤_}
-use lib.ListN.{length, replicate}
-use Rattle.meaning.specs.Replies.{between, accepted}
-use Rattle.meaning.specs.Settings.{cube, settingsNumber, callNumber}
-use Rattle.answers.specs.Laws.{Settled, Unsettled, settled, unsettled, settled-call, unsettled-call, reply-code, left-code}
-use Rattle.theory.specs.Settings.{passes, take-cube}
-use lib.Seq.{length-take-le}
+use mathlib.Core.Path.{_∙_, sym, ap, ap₂}
+use mathlib.Core.Bool.{Bool, _&&_, cond}
+use Rattle.meaning.specs.Replies.{between}
+use Rattle.meaning.specs.Settings.{cube}
+use Rattle.answers.specs.Laws.{Settled, Unsettled, settled, unsettled, settled-call, unsettled-call}
 use borrow.Author.Tests.{eq-eqb, ne-eqb}
-use Rattle.meaning.specs.Calls.{reply, settingsReply}
-use Rattle.meaning.specs.Boxes.{cells}
-use lib.Dec.{eqb}
+use Rattle.meaning.specs.Calls.{settingsReply}
 use Rattle.poly.proofs.check_tables.Statement.{statement}
 use Rattle.poly.proofs.check_tables.Tie as tie
 use Rattle.poly.proofs.check_tables.Reads as reads

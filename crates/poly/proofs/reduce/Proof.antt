@@ -1,9 +1,8 @@
 use borrow.Author.Needs.{needs}
-use mathlib.Core.Path.{_∙_, sym, ap, ap₂}
-use mathlib.Core.Bool.{Bool, false, _&&_}
+use mathlib.Core.Path.{_∙_, sym, ap}
+use mathlib.Core.Bool.{false}
 use Prim.Native.Nat.{ℕ, _≤_}
-use lib.Dec.{eqb}
-use lib.ListN.{length, replicate}
+use lib.ListN.{length}
 use borrow.Author.Tests.{eq-eqb, ne-eqb}
 use Rattle.meaning.specs.Boxes.{cells}
 use Rattle.meaning.specs.Replies.{between}
@@ -13,7 +12,7 @@ use Rattle.answers.specs.Laws.{Settled, Unsettled, settled, unsettled}
 use Rattle.theory.specs.Settings.{passes, take-cube}
 use lib.Seq.{length-take-le}
 use mathlib.Core.List.{List}
-use Rattle.meaning.specs.Values.{bound, boxTotal}
+use Rattle.meaning.specs.Values.{bound}
 use Rattle.theory.specs.Ranges.{le-of-between}
 use Rattle.poly.proofs.Replies.{reduce-turned, reduce-length, reduce-accepted}
 use Rattle.meaning.specs.Values.{boxReduced}

@@ -2,7 +2,6 @@ use borrow.Author.Needs.{needs}
 use native.Mathlib.Omega.{arith}
 use mathlib.Core.Bool.{true}
 use denote.Ref.{now}
-use Rattle.meaning.specs.Boxes.{cells}
 use Rattle.meaning.specs.Replies.{between}
 use Rattle.meaning.specs.Settings.{cube}
 use Rattle.meaning.specs.Calls.{settingsReply}

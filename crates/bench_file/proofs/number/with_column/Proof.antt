@@ -1,11 +1,8 @@
 use borrow.Author.Needs.{needs}
 use mathlib.Core.Path.{_∙_}
 use Rattle.bench_file.specs.ColumnLaws.{column-leading-zero, column-number, column-ill}
-use Rattle.bench_file.specs.declared.number.Field.{Field}
-use Rattle.bench_file.specs.Columns.{withDigit}
-use mathlib.Core.Path.{_≡_}
 use borrow.Author.Tests.{eq-eqb, ne-eqb}
-use Rattle.bench_file.specs.Columns.{withColumn, notZero}
+use Rattle.bench_file.specs.Columns.{withColumn}
 use mathlib.Core.Path.{sym}
 use Rattle.bench_file.proofs.number.with_column.Statement.{statement}
 use Rattle.bench_file.proofs.number.with_column.Tie as tie

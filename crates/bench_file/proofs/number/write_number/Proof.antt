@@ -3,9 +3,9 @@ use denote.Ref.{now}
 use Rattle.bench_file.specs.NumberLaws.{number-end}
 use borrow.Author.Needs.{needs}
 use native.Mathlib.Omega.{arith}
-use mathlib.Core.Path.{_≡_, refl, sym, _∙_}
+use mathlib.Core.Path.{_≡_, _∙_}
 use Prim.Native.Nat.{_≤_, _-_}
-use lib.ListN.{length, take, drop, length-set}
+use lib.ListN.{length, drop, length-set}
 use mathlib.Core.List.{_++_}
 use borrow.Author.Tests.{eq-eqb, ne-eqb}
 use Rattle.bench_file.specs.Text.{columns, number}

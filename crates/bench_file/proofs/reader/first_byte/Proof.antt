@@ -1,5 +1,5 @@
 use borrow.Author.Needs.{needs}
-use mathlib.Core.Path.{_≡_, refl, sym, _∙_, ap}
+use mathlib.Core.Path.{sym, _∙_}
 use Rattle.bench_file.specs.StepLaws.{first-inside, first-broken, first-other, first-ends}
 use Rattle.bench_file.proofs.reader.first_byte.Statement.{statement}
 use Rattle.bench_file.proofs.reader.first_byte.Tie as tie

@@ -1,5 +1,5 @@
 use borrow.Author.Needs.{needs}
-use mathlib.Core.Path.{_≡_, refl, sym, _∙_, ap}
+use mathlib.Core.Path.{sym, _∙_}
 use Rattle.bench_file.specs.StepLaws.{head-opens, head-opens-ill, head-closes, head-closes-ill}
 use Rattle.bench_file.proofs.reader.head_column.Statement.{statement}
 use Rattle.bench_file.proofs.reader.head_column.Tie as tie

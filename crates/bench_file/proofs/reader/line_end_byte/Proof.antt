@@ -1,6 +1,6 @@
 use borrow.Author.Needs.{needs}
 use lib.ListN.{set}
-use mathlib.Core.Path.{_≡_, refl, sym, _∙_, ap}
+use mathlib.Core.Path.{sym, _∙_, ap}
 use Rattle.bench_file.specs.Steps.{state}
 use denote.Ref.{now}
 use Rattle.bench_file.specs.declared.reader.Reader.{Reader}

@@ -1,5 +1,5 @@
 use borrow.Author.Needs.{needs}
-use mathlib.Core.Path.{_≡_, refl, sym, _∙_, ap}
+use mathlib.Core.Path.{sym, _∙_}
 use Rattle.bench_file.specs.StepLaws.{second-inside, second-broken, second-high, second-many, second-other, second-ends}
 use Rattle.bench_file.proofs.reader.second_byte.Statement.{statement}
 use Rattle.bench_file.proofs.reader.second_byte.Tie as tie

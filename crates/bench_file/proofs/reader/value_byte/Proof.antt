@@ -1,5 +1,5 @@
 use borrow.Author.Needs.{needs}
-use mathlib.Core.Path.{_≡_, refl, sym, _∙_, ap}
+use mathlib.Core.Path.{sym, _∙_}
 use Rattle.bench_file.specs.StepLaws.{value-opens, value-opens-ill, value-closes, value-closes-ill}
 use Rattle.bench_file.proofs.reader.value_byte.Statement.{statement}
 use Rattle.bench_file.proofs.reader.value_byte.Tie as tie

@@ -1,5 +1,5 @@
 use borrow.Author.Needs.{needs}
-use mathlib.Core.Path.{_≡_, refl, sym, _∙_, ap}
+use mathlib.Core.Path.{sym, _∙_}
 use Rattle.bench_file.specs.StepLaws.{with-head-room, with-head-full}
 use Rattle.bench_file.proofs.reader.with_head.Statement.{statement}
 use Rattle.bench_file.proofs.reader.with_head.Tie as tie

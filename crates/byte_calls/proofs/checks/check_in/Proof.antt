@@ -1,7 +1,7 @@
 -- The support is decoded, its settings are checked, and then its cells.
 use Rattle.byte_calls.proofs.checks.check_in.Statement.{statement}
 use borrow.Author.Needs.{needs}
-use mathlib.Core.Path.{_≡_, _∙_, sym, ap}
+use mathlib.Core.Path.{_≡_, _∙_, ap}
 use mathlib.Core.List.{List}
 use Prim.Native.Nat.{ℕ}
 use denote.Ref.{now}

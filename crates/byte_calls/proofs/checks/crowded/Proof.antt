@@ -1,10 +1,8 @@
 -- Each return names the first cause, by the tests that were passed before it; after the last test the indices repeat.
 use Rattle.byte_calls.proofs.checks.crowded.Statement.{statement}
 use borrow.Author.Needs.{needs}
-use mathlib.Core.Path.{_≡_, _∙_, sym}
-use denote.Ref.{now}
+use mathlib.Core.Path.{_∙_, sym}
 use Rattle.theory.specs.Ranges.{between-low, between-high, between-true}
-use Rattle.byte_calls.specs.Bytes.{decoded}
 use Rattle.byte_calls.specs.CallLaws.{crowded-total, crowded-width, crowded-degree, crowded-index, crowded-twice}
 use Rattle.byte_calls.proofs.checks.crowded.Tie as tie
 

@@ -1,12 +1,12 @@
 -- The loop keeps: the entries before i are filled.
 use Rattle.byte_calls.proofs.codec.decode.Statement.{statement}
 use borrow.Author.Needs.{needs}
-use mathlib.Core.Path.{_≡_, _∙_, sym, ap}
-use Prim.Native.Nat.{ℕ, _*_, _-_}
+use mathlib.Core.Path.{_∙_}
+use Prim.Native.Nat.{_*_, _-_}
 use native.Mathlib.Omega.{arith}
 use denote.Ref.{now}
 use lib.ListN.{length, length-set}
-use Rattle.theory.specs.Tables.{Filled, filled-start, filled-step, filled-done, length-tabulate}
+use Rattle.theory.specs.Tables.{Filled, filled-start, filled-step, filled-done}
 use Rattle.byte_calls.specs.Bytes.{numberAt}
 use Rattle.byte_calls.specs.ByteLaws.{tabulate-decoded}
 use Rattle.byte_calls.proofs.codec.decode.Tie as tie

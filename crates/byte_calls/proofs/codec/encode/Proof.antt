@@ -1,7 +1,7 @@
 -- The loop keeps: the bytes of the entries before i are written.
 use Rattle.byte_calls.proofs.codec.encode.Statement.{statement}
 use borrow.Author.Needs.{needs}
-use mathlib.Core.Path.{_≡_, _∙_, sym, ap, subst}
+use mathlib.Core.Path.{_≡_, _∙_, ap, subst}
 use mathlib.Core.List.{List}
 use Prim.Native.Nat.{ℕ, _+_, _*_, _-_, _/_, _%_, _≤_}
 use native.Mathlib.Omega.{arith}

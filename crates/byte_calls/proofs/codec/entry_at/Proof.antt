@@ -1,11 +1,10 @@
 -- The loop goes from the last byte down and keeps: the entry is the number of the last j bytes.
 use Rattle.byte_calls.proofs.codec.entry_at.Statement.{statement}
 use borrow.Author.Needs.{needs}
-use mathlib.Core.Path.{_≡_, _∙_, sym, ap, ap₂}
+use mathlib.Core.Path.{_≡_, _∙_, sym, ap₂}
 use Prim.Native.Nat.{ℕ, _+_, _-_, _*_, _≤_, _<_, _^_}
 use native.Mathlib.Omega.{arith}
 use denote.Ref.{now}
-use Rattle.meaning.specs.Tables.{at}
 use Rattle.byte_calls.specs.Bytes.{numberAt}
 use Rattle.byte_calls.specs.ByteLaws.{entry-start, entry-step, entry-room, entry-done}
 use Rattle.byte_calls.proofs.codec.entry_at.Tie as tie

@@ -2,8 +2,8 @@
 use Rattle.byte_calls.proofs.codec.put_entry.Statement.{statement}
 use borrow.Author.Needs.{needs}
 use mathlib.Core.Path.{_≡_, _∙_, sym, ap}
-use Prim.Native.Nat.{ℕ, _-_, _/_, _%_, _^_}
-use native.Mathlib.Nat.{div-one, mod-lt}
+use Prim.Native.Nat.{_-_, _/_, _%_, _^_}
+use native.Mathlib.Nat.{div-one}
 use native.Mathlib.Omega.{arith}
 use lib.ListN.{length, length-set}
 use Rattle.theory.specs.Tables.{Filled, filled-start, filled-step, filled-done}

@@ -2,7 +2,7 @@ use Rattle.byte_calls.proofs.fit.lengths_fit.Statement.{statement}
 use borrow.Author.Needs.{needs}
 use borrow.Author.Tests.{not-true, not-false}
 use mathlib.Core.Path.{_≡_, _∙_, sym, ap, ap₂}
-use mathlib.Core.Bool.{Bool, true, false, _&&_, and-false}
+use mathlib.Core.Bool.{Bool, true, _&&_}
 use denote.Ref.{now}
 use Rattle.byte_calls.specs.Calls.{holds}
 use Rattle.byte_calls.proofs.fit.lengths_fit.Tie as tie

@@ -1,7 +1,7 @@
 use borrow.Author.Needs.{needs}
-use mathlib.Core.Path.{_≡_, sym, _∙_, ap, ap₂}
+use mathlib.Core.Path.{_∙_, ap}
 use Rattle.meaning.specs.Leaves.{exponentReply}
-use borrow.Author.Tests.{eq-eqb, ne-eqb, le-leb, lt-leb, lt-ltb, le-ltb}
+use borrow.Author.Tests.{eq-eqb, ne-eqb, lt-ltb, le-ltb}
 use Rattle.cobra.proofs.keys.cobra_key_exponent_at.Statement.{statement}
 use Rattle.cobra.proofs.keys.cobra_key_exponent_at.Tie as tie
 use Rattle.cobra.proofs.keys.cobra_key_exponent_at.Reads as reads

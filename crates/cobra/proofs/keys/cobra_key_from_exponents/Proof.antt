@@ -1,6 +1,6 @@
 use borrow.Author.Needs.{needs}
-use mathlib.Core.Path.{_≡_, sym, _∙_, ap, ap₂}
-use borrow.Author.Tests.{eq-eqb, ne-eqb, le-leb, lt-leb, lt-ltb, le-ltb}
+use mathlib.Core.Path.{_∙_}
+use borrow.Author.Tests.{eq-eqb, ne-eqb, le-leb, lt-leb}
 use Rattle.cobra.proofs.keys.cobra_key_from_exponents.Statement.{statement}
 use Rattle.cobra.proofs.keys.cobra_key_from_exponents.Tie as tie
 use Rattle.cobra.proofs.keys.cobra_key_from_exponents.Reads as reads

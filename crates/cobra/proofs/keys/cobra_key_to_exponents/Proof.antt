@@ -3,8 +3,8 @@ use mathlib.Core.List.{List}
 use Prim.Native.Nat.{ℕ}
 use denote.Ref.{now}
 use Rattle.meaning.specs.Leaves.{exponentsLeft}
-use mathlib.Core.Path.{_≡_, sym, _∙_, ap, ap₂}
-use borrow.Author.Tests.{eq-eqb, ne-eqb, le-leb, lt-leb, lt-ltb, le-ltb}
+use mathlib.Core.Path.{_∙_, ap}
+use borrow.Author.Tests.{eq-eqb, ne-eqb, le-leb, lt-leb}
 use Rattle.cobra.proofs.keys.cobra_key_to_exponents.Statement.{statement}
 use Rattle.cobra.proofs.keys.cobra_key_to_exponents.Tie as tie
 use Rattle.cobra.proofs.keys.cobra_key_to_exponents.Reads as reads

@@ -2,8 +2,8 @@ use borrow.Author.Needs.{needs}
 use mathlib.Core.List.{List}
 use Prim.Native.Nat.{ℕ}
 use lib.ListN.{set}
-use mathlib.Core.Path.{_≡_, sym, _∙_, ap, ap₂}
-use borrow.Author.Tests.{eq-eqb, ne-eqb, le-leb, lt-leb, lt-ltb, le-ltb}
+use mathlib.Core.Path.{_∙_, ap}
+use borrow.Author.Tests.{eq-eqb, ne-eqb, lt-ltb, le-ltb}
 use Rattle.cobra.proofs.keys.cobra_key_with_exponent.Statement.{statement}
 use Rattle.cobra.proofs.keys.cobra_key_with_exponent.Tie as tie
 use Rattle.cobra.proofs.keys.cobra_key_with_exponent.Reads as reads

@@ -1,5 +1,5 @@
 use borrow.Author.Needs.{needs}
-use Rattle.cobra.proofs.Whole.{key-of-whole, stored-whole}
+use Rattle.cobra.proofs.Whole.{key-of-whole}
 use mathlib.Core.Path.{_∙_}
 use Rattle.cobra.proofs.keys.key_of.Statement.{statement}
 use Rattle.cobra.proofs.keys.key_of.Tie as tie

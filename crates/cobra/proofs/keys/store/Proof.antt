@@ -2,7 +2,7 @@ use borrow.Author.Needs.{needs}
 use lib.ListN.{length}
 use denote.Ref.{now}
 use mathlib.Core.Path.{_≡_}
-use Rattle.cobra.proofs.Whole.{key-of-whole, stored-whole}
+use Rattle.cobra.proofs.Whole.{stored-whole}
 use mathlib.Core.Path.{_∙_}
 use Rattle.cobra.proofs.keys.store.Statement.{statement}
 use Rattle.cobra.proofs.keys.store.Tie as tie

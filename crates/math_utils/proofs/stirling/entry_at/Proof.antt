@@ -1,5 +1,5 @@
 use borrow.Author.Needs.{needs}
-use mathlib.Core.Path.{_≡_, _∙_, ap₂}
+use mathlib.Core.Path.{_∙_, ap₂}
 use Prim.Native.Nat.{_-_, _/_, _%_, _≤_}
 use Rattle.math_utils.specs.Kinds.{next}
 use Rattle.math_utils.proofs.Entries.{entry-corner, entry-left, entry-top, entry-inner, row-before, before-first}

@@ -1,6 +1,6 @@
 -- The measure is the number of degrees. The loop walks over the sub-boxes of the last variable, and those before it are reduced.
 use borrow.Author.Needs.{needs}
-use mathlib.Core.Path.{_≡_, _∙_, sym, ap}
+use mathlib.Core.Path.{_∙_, sym, ap}
 use Prim.Native.Nat.{_-_, ℕ, _<_}
 use native.Mathlib.Omega.{arith}
 use lib.Bits.{bitAnd}

@@ -1,7 +1,6 @@
 use Rattle.poly.proofs.cells.add_tables.Statement.{statement}
 use borrow.Author.Needs.{needs}
 use native.Mathlib.Omega.{arith}
-use mathlib.Core.Path.{refl}
 use Prim.Native.Nat.{_+_, _-_, _%_, _^_}
 use lib.ListN.{length, length-set}
 use Rattle.meaning.specs.Tables.{at}

@@ -1,5 +1,5 @@
 use Rattle.two_adic_solver.proofs.elimination.clear_column.Statement.{statement}
-use mathlib.Core.Path.{refl, sym, ap, ap₂, _∙_}
+use mathlib.Core.Path.{refl, sym, ap, _∙_}
 use Rattle.theory.specs.Trailing.{twosIn-left-odd}
 use native.Mathlib.Omega.{arith}
 use Prim.Native.Nat.{_+_, _*_, _-_, _≤_, _<_}
@@ -16,67 +16,35 @@ Inv-loop matrix₀ right₀ used columns column pivot bitwidth entry twos v star
 abbrev μ-loop : tie.MeasureT-loop
 μ-loop matrix₀ right₀ used columns column pivot bitwidth entry twos v start count row₀ matrix right row = length right₀ - row
 
+-- the pivot's entry lies in the matrix
+place : (s : tie.Start Inv-loop μ-loop) → s .args .pivot * s .args .columns + s .args .column < length (s .args .matrix .now)
+place s = place-lt (length (s .args .right .now)) (s .args .columns) _ (s .pre .0 .0) (s .args .pivot) (s .args .column) (s .pre .0 .3) (s .pre .0 .2)
+
+-- and so does the pivot row from there on
+row-end : (s : tie.Start Inv-loop μ-loop) → s .args .pivot * s .args .columns + s .args .column + (s .args .columns - s .args .column) ≤ length (s .args .matrix .now)
+row-end s = row-to-end (length (s .args .right .now)) (s .args .columns) _ (s .pre .0 .0) (s .args .pivot) (s .args .column) (s .pre .0 .3) (s .pre .0 .2)
+
 pub clear-column-spec : {M : Type 1} → statement M
 clear-column-spec =
     tie.close
     (tie.spec
     Inv-loop
     μ-loop
-    (λ c.
-    let s = c .before .before .before in
-    let l : s .args .pivot * s .args .columns + s .args .column < length (s .args .matrix .now) = place-lt (length (s .args .right .now))
-    (s .args .columns) _ (s .pre .0 .0) (s .args .pivot) (s .args .column) (s .pre .0 .3) (s .pre .0 .2) in search needs)
-    (λ c.
-    let s = c .before .before .before in
-    let l : s .args .pivot * s .args .columns + s .args .column < length (s .args .matrix .now) = place-lt (length (s .args .right .now))
-    (s .args .columns) _ (s .pre .0 .0) (s .args .pivot) (s .args .column) (s .pre .0 .3) (s .pre .0 .2) in search needs)
-    (λ c.
-    let s = c .before .before .before in
-    let l : s .args .pivot * s .args .columns + s .args .column < length (s .args .matrix .now) = place-lt (length (s .args .right .now))
-    (s .args .columns) _ (s .pre .0 .0) (s .args .pivot) (s .args .column) (s .pre .0 .3) (s .pre .0 .2) in search needs)
-    (λ c.
-    let s = c .before .before .before .before in
-    let l : s .args .pivot * s .args .columns + s .args .column < length (s .args .matrix .now) = place-lt (length (s .args .right .now))
-    (s .args .columns) _ (s .pre .0 .0) (s .args .pivot) (s .args .column) (s .pre .0 .3) (s .pre .0 .2) in l)
+    (λ c. let l = place (c .before .before .before) in search needs)
+    (λ c. let l = place (c .before .before .before) in search needs)
+    (λ c. let l = place (c .before .before .before) in search needs)
+    (λ c. place (c .before .before .before .before))
     (λ c κs. search needs)
     (λ c κs.
     let s = c .before .before .before .before .before in
     rw (c .height .ensures) (s .pre .1 .1, s .pre .1 .2, twosIn-left-odd (s .args .bitwidth) _ (s .pre .1 .1)))
-    (λ c.
-    let s = c .before .before .before .before .before .before in
-    let f : s .args .pivot * s .args .columns + s .args .column + (s .args .columns - s .args .column) ≤ length (s .args .matrix .now) =
-    row-to-end (length (s .args .right .now)) (s .args .columns) _ (s .pre .0 .0) (s .args .pivot) (s .args .column) (s .pre .0 .3) (s .pre .0 .2) in
-    search needs)
-    (λ c.
-    let s = c .before .before .before .before .before .before in
-    let f : s .args .pivot * s .args .columns + s .args .column + (s .args .columns - s .args .column) ≤ length (s .args .matrix .now) =
-    row-to-end (length (s .args .right .now)) (s .args .columns) _ (s .pre .0 .0) (s .args .pivot) (s .args .column) (s .pre .0 .3) (s .pre .0 .2) in
-    search needs)
-    (λ c.
-    let s = c .before .before .before .before .before .before in
-    let f : s .args .pivot * s .args .columns + s .args .column + (s .args .columns - s .args .column) ≤ length (s .args .matrix .now) =
-    row-to-end (length (s .args .right .now)) (s .args .columns) _ (s .pre .0 .0) (s .args .pivot) (s .args .column) (s .pre .0 .3) (s .pre .0 .2) in
-    search needs)
-    (λ c.
-    let s = c .before .before .before .before .before .before in
-    let f : s .args .pivot * s .args .columns + s .args .column + (s .args .columns - s .args .column) ≤ length (s .args .matrix .now) =
-    row-to-end (length (s .args .right .now)) (s .args .columns) _ (s .pre .0 .0) (s .args .pivot) (s .args .column) (s .pre .0 .3) (s .pre .0 .2) in
-    search needs)
-    (λ c.
-    let s = c .before .before .before .before .before .before in
-    let f : s .args .pivot * s .args .columns + s .args .column + (s .args .columns - s .args .column) ≤ length (s .args .matrix .now) =
-    row-to-end (length (s .args .right .now)) (s .args .columns) _ (s .pre .0 .0) (s .args .pivot) (s .args .column) (s .pre .0 .3) (s .pre .0 .2) in
-    search needs)
-    (λ c.
-    let s = c .before .before .before .before .before .before .before in
-    let f : s .args .pivot * s .args .columns + s .args .column + (s .args .columns - s .args .column) ≤ length (s .args .matrix .now) =
-    row-to-end (length (s .args .right .now)) (s .args .columns) _ (s .pre .0 .0) (s .args .pivot) (s .args .column) (s .pre .0 .3) (s .pre .0 .2) in
-    search needs)
-    (λ c.
-    let s = c .before .before .before .before .before .before .before in
-    let f : s .args .pivot * s .args .columns + s .args .column + (s .args .columns - s .args .column) ≤ length (s .args .matrix .now) =
-    row-to-end (length (s .args .right .now)) (s .args .columns) _ (s .pre .0 .0) (s .args .pivot) (s .args .column) (s .pre .0 .3) (s .pre .0 .2) in
-    search needs)
+    (λ c. let f = row-end (c .before .before .before .before .before .before) in search needs)
+    (λ c. let f = row-end (c .before .before .before .before .before .before) in search needs)
+    (λ c. let f = row-end (c .before .before .before .before .before .before) in search needs)
+    (λ c. let f = row-end (c .before .before .before .before .before .before) in search needs)
+    (λ c. let f = row-end (c .before .before .before .before .before .before) in search needs)
+    (λ c. let f = row-end (c .before .before .before .before .before .before .before) in search needs)
+    (λ c. let f = row-end (c .before .before .before .before .before .before .before) in search needs)
     (λ c κs. search needs)
     (λ c. cleared-start _ _ _ _ _ _ _ (c .before .before .before .before .before .before .before .before .before .pre .0 .3))
     (λ c.
@@ -88,8 +56,7 @@ clear-column-spec =
     ))
     (λ c κs.
     let s = c .before .before .before .before .before .before .before .before .before .before .before .before .before .before in
-    let f : s .args .pivot * s .args .columns + s .args .column + (s .args .columns - s .args .column) ≤ length (s .args .matrix .now) =
-    row-to-end (length (s .args .right .now)) (s .args .columns) _ (s .pre .0 .0) (s .args .pivot) (s .args .column) (s .pre .0 .3) (s .pre .0 .2) in
+    let f = row-end s in
     let a = s .args in
     let i = c .before .before .before .before .loop .inv in
     let n = c .before .before .before .before .before .span .ensures .0 in
@@ -112,8 +79,7 @@ clear-column-spec =
     (λ c.
     let s = c .before .before .before .before .before .before .before .before .before .before .before .before .before .before .before .before .before
     .before .before in
-    let f : s .args .pivot * s .args .columns + s .args .column + (s .args .columns - s .args .column) ≤ length (s .args .matrix .now) =
-    row-to-end (length (s .args .right .now)) (s .args .columns) _ (s .pre .0 .0) (s .args .pivot) (s .args .column) (s .pre .0 .3) (s .pre .0 .2) in
+    let f = row-end s in
     let a = s .args in
     let b = c .before .before .before .before .before .before .before .before .before in
     let n = c .before .before .before .before .before .before .before .before .before .before .span in

@@ -1,6 +1,5 @@
 use borrow.Author.Needs.{needs}
 use Rattle.two_adic_solver.proofs.ClearLaws.{quotient-told}
-use native.Mathlib.Omega.{arith}
 use Prim.Native.Nat.{_*_, _+_, _<_}
 use lib.ListN.{length}
 use Rattle.two_adic_solver.proofs.ClearLaws.{row-used, row-zero, row-subtracted, place-lt, row-fits, rows-apart}

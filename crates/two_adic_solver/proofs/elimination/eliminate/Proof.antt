@@ -1,5 +1,5 @@
 use Rattle.two_adic_solver.proofs.elimination.eliminate.Statement.{statement}
-use mathlib.Core.Path.{refl, sym, ap, ap₂, _∙_}
+use mathlib.Core.Path.{sym, ap, _∙_}
 use native.Mathlib.Omega.{arith}
 use Prim.Native.Nat.{_-_, _*_}
 use Rattle.two_adic_solver.proofs.ColumnLaws.{Passed, passed-start, passed-step, passed-done}

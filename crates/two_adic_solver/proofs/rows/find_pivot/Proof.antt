@@ -1,5 +1,5 @@
 use Rattle.two_adic_solver.proofs.rows.find_pivot.Statement.{statement}
-use mathlib.Core.Path.{refl, sym, ap, ap₂, _∙_}
+use mathlib.Core.Path.{refl, ap, _∙_}
 use Prim.Native.Nat.{ℕ, _<_}
 use lib.ListN.{length, getD}
 use mathlib.Core.Bool.{cond, false}
@@ -7,7 +7,7 @@ use Rattle.meaning.specs.Factorials.{twosIn}
 use Rattle.meaning.specs.Tables.{at}
 use Rattle.two_adic_solver.proofs.RowLaws.{place-within, searched-done}
 use native.Mathlib.Omega.{arith}
-use Prim.Native.Nat.{_-_, _*_, _+_}
+use Prim.Native.Nat.{_-_}
 use mathlib.Core.Path.{refl}
 use Rattle.two_adic_solver.specs.Rows.{heightOf}
 use Rattle.two_adic_solver.proofs.RowLaws.{Searched, searched-start, searched-step}

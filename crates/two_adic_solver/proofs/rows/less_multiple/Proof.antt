@@ -1,5 +1,5 @@
 use borrow.Author.Needs.{needs}
-use mathlib.Core.Path.{refl, sym, ap, ap₂, _∙_}
+use mathlib.Core.Path.{ap, _∙_}
 use lib.Bits.{bitAnd}
 use Prim.Native.Nat.{ℕ, _*_, _^_}
 use Rattle.meaning.specs.Differences.{minus}

@@ -1,5 +1,5 @@
 use Rattle.two_adic_solver.proofs.rows.reduce.Statement.{statement}
-use mathlib.Core.Path.{refl, sym, ap, ap₂, _∙_}
+use mathlib.Core.Path.{ap, _∙_}
 use lib.Bits.{bitAnd}
 use Rattle.theory.specs.Words.{masked-low}
 use native.Mathlib.Nat.{le-refl}

@@ -1,5 +1,5 @@
 use borrow.Author.Needs.{needs}
-use mathlib.Core.Path.{refl, sym, ap, ap₂, _∙_}
+use mathlib.Core.Path.{sym, _∙_}
 use borrow.Author.Tests.{not-true, not-false}
 use Rattle.two_adic_solver.proofs.SolverLaws.{concluded-pivots, concluded-right, concluded, ended-low}
 use Rattle.two_adic_solver.proofs.solver.conclude.Statement.{statement}

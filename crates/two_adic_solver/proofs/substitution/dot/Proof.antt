@@ -1,9 +1,9 @@
 use Rattle.two_adic_solver.proofs.substitution.dot.Statement.{statement}
 use Rattle.two_adic_solver.proofs.SubstitutionLaws.{sum-none, sum-whole}
 use Prim.Native.Nat.{zero-le}
-use mathlib.Core.Path.{_≡_, refl, sym, ap, ap₂, _∙_}
+use mathlib.Core.Path.{_≡_}
 use native.Mathlib.Omega.{arith}
-use Prim.Native.Nat.{ℕ, _-_, _*_, _^_, _%_, _≤_}
+use Prim.Native.Nat.{_-_, _*_, _^_, _%_, _≤_}
 use lib.ListN.{length}
 use Rattle.meaning.specs.Tables.{at}
 use Rattle.meaning.specs.Sums.{sum}

@@ -1,5 +1,5 @@
 use Rattle.two_adic_solver.proofs.substitution.pivots_found.Statement.{statement}
-use mathlib.Core.Path.{_≡_, refl, sym, ap, ap₂, _∙_}
+use mathlib.Core.Path.{_≡_, sym}
 use native.Mathlib.Omega.{arith}
 use Prim.Native.Nat.{ℕ, _-_, _<_}
 use native.Mathlib.Nat.{not-suc-le-zero}

@@ -1,5 +1,4 @@
 use borrow.Author.Needs.{needs}
-use native.Mathlib.Omega.{arith}
 use Prim.Native.Nat.{_+_, _*_, _-_, _≤_}
 use lib.ListN.{length}
 use Rattle.two_adic_solver.proofs.ClearLaws.{row-to-end}
@@ -7,41 +6,21 @@ use Rattle.two_adic_solver.proofs.SubstitutionLaws.{rest-computed}
 use Rattle.two_adic_solver.proofs.substitution.rest_of.Statement.{statement}
 use Rattle.two_adic_solver.proofs.substitution.rest_of.Tie as tie
 
+-- the pivot row from the column on lies in the matrix
+row-end : (s : tie.Start) → s .args .pivot * s .args .columns + s .args .column + (s .args .columns - s .args .column) ≤ length (s .args .matrix .now)
+row-end s = row-to-end (length (s .args .right .now)) (s .args .columns) _ (s .pre .0 .0) (s .args .pivot) (s .args .column) (s .pre .0 .3) (s .pre .0 .2)
+
 pub rest-of-spec : {M : Type 1} → statement M
 rest-of-spec =
     tie.close
     (tie.spec
-    (λ c.
-    let s = c .before .before .before in
-    let f : s .args .pivot * s .args .columns + s .args .column + (s .args .columns - s .args .column) ≤ length (s .args .matrix .now) = row-to-end
-    (length (s .args .right .now)) (s .args .columns) _ (s .pre .0 .0) (s .args .pivot) (s .args .column) (s .pre .0 .3) (s .pre .0 .2) in
-    search needs)
-    (λ c.
-    let s = c .before .before .before in
-    let f : s .args .pivot * s .args .columns + s .args .column + (s .args .columns - s .args .column) ≤ length (s .args .matrix .now) = row-to-end
-    (length (s .args .right .now)) (s .args .columns) _ (s .pre .0 .0) (s .args .pivot) (s .args .column) (s .pre .0 .3) (s .pre .0 .2) in
-    search needs)
-    (λ c.
-    let s = c .before .before .before in
-    let f : s .args .pivot * s .args .columns + s .args .column + (s .args .columns - s .args .column) ≤ length (s .args .matrix .now) = row-to-end
-    (length (s .args .right .now)) (s .args .columns) _ (s .pre .0 .0) (s .args .pivot) (s .args .column) (s .pre .0 .3) (s .pre .0 .2) in
-    search needs)
-    (λ c.
-    let s = c .before .before .before in
-    let f : s .args .pivot * s .args .columns + s .args .column + (s .args .columns - s .args .column) ≤ length (s .args .matrix .now) = row-to-end
-    (length (s .args .right .now)) (s .args .columns) _ (s .pre .0 .0) (s .args .pivot) (s .args .column) (s .pre .0 .3) (s .pre .0 .2) in
-    search needs)
-    (λ c.
-    let s = c .before .before .before in
-    let f : s .args .pivot * s .args .columns + s .args .column + (s .args .columns - s .args .column) ≤ length (s .args .matrix .now) = row-to-end
-    (length (s .args .right .now)) (s .args .columns) _ (s .pre .0 .0) (s .args .pivot) (s .args .column) (s .pre .0 .3) (s .pre .0 .2) in
-    search needs)
+    (λ c. let f = row-end (c .before .before .before) in search needs)
+    (λ c. let f = row-end (c .before .before .before) in search needs)
+    (λ c. let f = row-end (c .before .before .before) in search needs)
+    (λ c. let f = row-end (c .before .before .before) in search needs)
+    (λ c. let f = row-end (c .before .before .before) in search needs)
     (λ c. search needs) (λ c. search needs)
-    (λ c.
-    let s = c .before .before .before in
-    let f : s .args .pivot * s .args .columns + s .args .column + (s .args .columns - s .args .column) ≤ length (s .args .matrix .now) = row-to-end
-    (length (s .args .right .now)) (s .args .columns) _ (s .pre .0 .0) (s .args .pivot) (s .args .column) (s .pre .0 .3) (s .pre .0 .2) in
-    search needs)
+    (λ c. let f = row-end (c .before .before .before) in search needs)
     (λ c.
     search needs) (λ c. search needs) (λ c. search needs) (λ c. search needs) (λ c. search needs) (λ c κs. search needs) (λ c. search needs)
     (λ c. search needs) (λ c κs. search needs)

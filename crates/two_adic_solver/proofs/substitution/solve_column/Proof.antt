@@ -1,6 +1,6 @@
 use borrow.Author.Needs.{needs}
 use native.Mathlib.Omega.{arith}
-use mathlib.Core.Path.{refl, sym, ap, ap₂, _∙_}
+use mathlib.Core.Path.{sym, ap, _∙_}
 use Prim.Native.Nat.{_+_, _*_, _<_}
 use lib.ListN.{length}
 use lib.Bits.{bitAnd}
@@ -11,26 +11,18 @@ use Rattle.theory.specs.Trailing.{twosIn-left-odd}
 use Rattle.two_adic_solver.proofs.substitution.solve_column.Statement.{statement}
 use Rattle.two_adic_solver.proofs.substitution.solve_column.Tie as tie
 
+-- the pivot's entry lies in the matrix
+place : (s : tie.Start) → s .args .pivot * s .args .columns + s .args .column < length (s .args .matrix .now)
+place s = place-lt (length (s .args .right .now)) (s .args .columns) _ (s .pre .0 .0) (s .args .pivot) (s .args .column) (s .pre .0 .3) (s .pre .0 .2)
+
 pub solve-column-spec : {M : Type 1} → statement M
 solve-column-spec =
     tie.close
     (tie.spec
-    (λ c.
-    let s = c .before .before .before in
-    let l : s .args .pivot * s .args .columns + s .args .column < length (s .args .matrix .now) = place-lt (length (s .args .right .now))
-    (s .args .columns) _ (s .pre .0 .0) (s .args .pivot) (s .args .column) (s .pre .0 .3) (s .pre .0 .2) in search needs)
-    (λ c.
-    let s = c .before .before .before in
-    let l : s .args .pivot * s .args .columns + s .args .column < length (s .args .matrix .now) = place-lt (length (s .args .right .now))
-    (s .args .columns) _ (s .pre .0 .0) (s .args .pivot) (s .args .column) (s .pre .0 .3) (s .pre .0 .2) in search needs)
-    (λ c.
-    let s = c .before .before .before in
-    let l : s .args .pivot * s .args .columns + s .args .column < length (s .args .matrix .now) = place-lt (length (s .args .right .now))
-    (s .args .columns) _ (s .pre .0 .0) (s .args .pivot) (s .args .column) (s .pre .0 .3) (s .pre .0 .2) in search needs)
-    (λ c.
-    let s = c .before .before .before .before in
-    let l : s .args .pivot * s .args .columns + s .args .column < length (s .args .matrix .now) = place-lt (length (s .args .right .now))
-    (s .args .columns) _ (s .pre .0 .0) (s .args .pivot) (s .args .column) (s .pre .0 .3) (s .pre .0 .2) in l)
+    (λ c. let l = place (c .before .before .before) in search needs)
+    (λ c. let l = place (c .before .before .before) in search needs)
+    (λ c. let l = place (c .before .before .before) in search needs)
+    (λ c. place (c .before .before .before .before))
     (λ c κs. search needs) (λ c κs. search needs) (λ c κs. search needs) (λ c. search needs)
     (λ c.
     let s = c .before .before .before .before .before .before .before .before .before in let a = s .args in let p = s .pre in

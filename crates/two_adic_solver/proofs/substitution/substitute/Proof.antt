@@ -4,7 +4,6 @@ use Prim.Native.Nat.{_-_, _<_}
 use mathlib.Core.Path.{subst}
 use Rattle.two_adic_solver.specs.Solved.{Solved}
 use native.Mathlib.Omega.{arith}
-use mathlib.Core.Path.{refl, sym, ap, ap₂, _∙_}
 use Rattle.two_adic_solver.proofs.SubstitutionLaws.{Substituting, substituting-start, substituting-step, substituting-fails, substituting-done}
 use borrow.Author.Needs.{needs}
 use Rattle.two_adic_solver.proofs.substitution.substitute.Tie as tie

@@ -1,6 +1,5 @@
 -- The loop over the total degrees.
 use Prim.Native.Nat.{_+_, _-_}
-use native.Mathlib.Omega.{arith}
 use borrow.Author.Needs.{needs}
 use Rattle.weighted_poly_fit.proofs.ByDegrees.{Degrees, degrees-start, degrees-same, degrees-fits, degrees-room, degrees-next, degrees-done}
 use Rattle.weighted_poly_fit.proofs.columns.enumerate_basis.Statement.{statement}

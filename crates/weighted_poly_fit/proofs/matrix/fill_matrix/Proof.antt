@@ -1,6 +1,6 @@
 -- The loop fills one row after the other.
 use Rattle.weighted_poly_fit.proofs.matrix.fill_matrix.Statement.{statement}
-use Prim.Native.Nat.{_-_}
+use Prim.Native.Nat.{_-_, _+_, _≤_, _<_, _^_}
 use native.Mathlib.Omega.{arith}
 use native.Mathlib.Nat.{le-of-eq}
 use mathlib.Core.Path.{sym, _∙_, ap}
@@ -17,6 +17,13 @@ Inv-loop matrix₀ weights degrees columns cols size powers₀ point₀ bitwidth
 
 abbrev μ-loop : tie.MeasureT-loop
 μ-loop matrix₀ weights degrees columns cols size powers₀ point₀ bitwidth from₀ i₀ matrix powers point from i = length weights - i
+
+-- the row to be filled lies in the matrix, and its end is a place
+inside : (c : tie.In-loop Inv-loop μ-loop) → c .before .loop .from + c .before .before .before .before .before .before .before .before .args .cols ≤ length (c .before .loop .matrix)
+inside c = row-end (c .before .loop .inv) (c .loop-test .taken)
+
+in-memory : (c : tie.In-loop Inv-loop μ-loop) → c .before .loop .from + c .before .before .before .before .before .before .before .before .args .cols < 2 ^ 64
+in-memory c = omega (arith, inside c, c .before .loop .inv .filled .same, c .before .before .before .before .before .before .before .before .good .0 .0)
 
 pub fill-matrix-spec : {M : Type 1} → statement M
 fill-matrix-spec =
@@ -42,30 +49,10 @@ fill-matrix-spec =
     i .powers-same ∙ i .shape .powers-long ∙ ap
     (λ n. n * c .before .before .before .before .before .before .before .before .before .before .before .before .before .before .args .size)
     (sym (c .before .before .before .before .coordinates .kept .0 ∙ i .point-same ∙ i .shape .point-long)))
-    (λ c.
-    omega (
-      arith,
-      row-end (c .before .before .before .before .before .before .before .before .before .before .loop .inv)
-          (c .before .before .before .before .before .before .before .before .before .loop-test .taken),
-      c .before .before .before .before .before .before
-          .before .before .before .before .loop .inv .filled .same,
-      c .before .before .before .before .before .before .before .before .before .before
-          .before .before .before .before .before .before .before .good .0 .0,
-    ))
-    (λ c.
-    omega (
-      arith,
-      row-end (c .before .before .before .before .before .before .before .before .before .before .loop .inv)
-          (c .before .before .before .before .before .before .before .before .before .loop-test .taken),
-      c .before .before .before .before .before .before
-          .before .before .before .before .loop .inv .filled .same,
-      c .before .before .before .before .before .before .before .before .before .before
-          .before .before .before .before .before .before .before .good .0 .0,
-    ))
+    (λ c. in-memory (c .before .before .before .before .before .before .before .before .before))
+    (λ c. in-memory (c .before .before .before .before .before .before .before .before .before))
     (λ c. search needs) (λ c. search needs)
-    (λ c.
-    row-end (c .before .before .before .before .before .before .before .before .before .before .loop .inv)
-    (c .before .before .before .before .before .before .before .before .before .loop-test .taken))
+    (λ c. inside (c .before .before .before .before .before .before .before .before .before))
     (λ c. search needs) (λ c. search needs)
     (λ c κs.
     let i = c .before .before .before .before .before .before .before .before .before .before .before .before .before .loop .inv in (
