@@ -1,3 +1,5 @@
+-- Numbers as text and their reading (Text to NumberLaws), the layout of a file with examples, the reader from one byte to a whole input
+-- (Steps to OneContent), the text of an answer in a buffer (Printed to AnswerLaws), and the number of the answer (Verdict, VerdictLaws).
 pub mod Text
 pub mod Columns
 pub mod ColumnLaws

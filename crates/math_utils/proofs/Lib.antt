@@ -1,1 +1,2 @@
+-- The entries of a Stirling table, cell by cell.
 pub mod Entries

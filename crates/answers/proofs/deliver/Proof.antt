@@ -1,3 +1,4 @@
+-- Two cases: a value is stored and told beside 0; beside a refusal 0 is stored, and its number is the one of `refusal_code`.
 use borrow.Author.Needs.{needs}
 use Rattle.answers.proofs.deliver.Statement.{statement}
 use Rattle.answers.proofs.deliver.Tie as tie

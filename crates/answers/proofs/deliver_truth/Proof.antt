@@ -1,3 +1,4 @@
+-- Three cases: a yes stores 1 and a no stores 0, both beside the number 0; a refusal stores 0 beside the number of `refusal_code`.
 use borrow.Author.Needs.{needs}
 use Rattle.answers.proofs.deliver_truth.Statement.{statement}
 use Rattle.answers.proofs.deliver_truth.Tie as tie

@@ -1,3 +1,4 @@
+-- From width 64 on the least of width and 64 is 64, and the mask is all ones. Below it the shifted one does not wrap, and is at least the 1 that is taken off.
 use borrow.Author.Needs.{needs}
 use mathlib.Core.Path.{sym, ap}
 use Prim.Native.Nat.{ℕ, _-_, _^_}

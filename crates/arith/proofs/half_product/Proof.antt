@@ -1,3 +1,4 @@
+-- Two numbers below 2^32 have a product below 2^64 (`product-fits`), so that the multiplication fits and is exact.
 use borrow.Author.Needs.{needs}
 use Rattle.theory.specs.Words.{product-fits}
 use Rattle.arith.proofs.half_product.Statement.{statement}

@@ -1,3 +1,5 @@
+-- The number whose remainder a difference is depends on the modulus, so that the mask needs a law of its own:
+-- the low bits of the difference modulo 2^64 are the difference modulo 2^width (`minus-masked`).
 use borrow.Author.Needs.{needs}
 use mathlib.Core.Path.{_∙_, ap₂}
 use lib.Bits.{bitAnd}

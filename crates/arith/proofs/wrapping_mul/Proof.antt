@@ -1,3 +1,5 @@
+-- The halves are below 2^32, so that their products are exact; added up modulo 2^64, the cross products times 2^32, they give the product
+-- (`product-by-halves`). The product of the high halves counts 2^64 times and drops out.
 use borrow.Author.Needs.{needs}
 use Rattle.theory.specs.Words.{product-by-halves}
 use Rattle.arith.proofs.wrapping_mul.Statement.{statement}

@@ -1,3 +1,4 @@
+-- The callee says that b added back gives a modulo 2^64. With `minus` unfolded the rest is arithmetic on numbers below 2^64.
 use borrow.Author.Needs.{needs}
 use native.Mathlib.Omega.{arith}
 use Rattle.meaning.specs.Differences.{minus}

@@ -1,3 +1,5 @@
+-- A refusal is the check's, and `out` stays. Where the check accepts, the support is short enough for twenty copies of the degree and the lengths are
+-- those of the box, so that `convert_box` can be called; the part of the twenty copies is the cube of the support.
 use borrow.Author.Needs.{needs}
 use mathlib.Core.Path.{_≡_, sym, _∙_, ap}
 use mathlib.Core.List.{List}

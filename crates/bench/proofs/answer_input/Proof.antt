@@ -1,3 +1,5 @@
+-- What was read leads to a text, which is in the buffer (`answered`). No text is longer than the buffer, so that there is always room (`always-room`);
+-- an input that is not read to its end leaves the buffer as it was.
 use borrow.Author.Needs.{needs}
 use mathlib.Core.Path.{_≡_}
 use denote.Ref.{now}

@@ -1,3 +1,4 @@
+-- The function promises nothing itself; to show is that the part that is printed exists: a text lies inside its buffer (`inside-of`).
 use borrow.Author.Needs.{needs}
 use mathlib.Core.Path.{sym, subst}
 use Prim.Native.Nat.{_≤_}

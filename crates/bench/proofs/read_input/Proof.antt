@@ -1,3 +1,5 @@
+-- The loop: some bytes lead a new reader and the lent table to those at hand, and a piece that is read is appended to these bytes.
+-- The measure is the turns left; all three returns hand over what the loop keeps.
 use Rattle.bench.proofs.read_input.Statement.{statement}
 use mathlib.Core.Path.{_≡_, refl, sym, _∙_}
 use denote.Ref.{now}

@@ -1,3 +1,4 @@
+-- The array is a list of 1,122,347 zeros, which has that length.
 use mathlib.Core.Path.{sym}
 use Prim.Native.Nat.{ℕ}
 use lib.ListN.{length-replicate}

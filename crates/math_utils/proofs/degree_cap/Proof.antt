@@ -1,3 +1,4 @@
+-- A width below 2 and one above 64 are refused, each in its return; between them the value is what `least_degree` finds.
 use borrow.Author.Needs.{needs}
 use Rattle.theory.specs.Ranges.{between-true, between-low, between-high}
 use Rattle.math_utils.proofs.degree_cap.Statement.{statement}

@@ -1,3 +1,4 @@
+-- The contracts of the five lifts, put into one another, are five steps from x, which give the inverse of an odd x modulo 2^64 (`five-steps`).
 use borrow.Author.Needs.{needs}
 use mathlib.Core.Path.{_∙_, ap}
 use Rattle.theory.specs.Inverses.{wordStep, five-steps}

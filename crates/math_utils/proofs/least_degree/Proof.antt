@@ -1,3 +1,5 @@
+-- The loop: the search from `degree` on finds the cap. Every second factor of a factorial is even, so that a degree with too few twos is below twice
+-- the width; the measure is what is left up to there.
 use Rattle.math_utils.proofs.least_degree.Statement.{statement}
 use Prim.Native.Nat.{_*_, _-_, _<_, _≤_}
 use Rattle.meaning.specs.Factorials.{factorial, twos}

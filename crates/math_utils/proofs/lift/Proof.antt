@@ -1,3 +1,4 @@
+-- The contracts of the inner product, the difference from 2 and the outer product, put into one another, are the step.
 use borrow.Author.Needs.{needs}
 use Rattle.math_utils.proofs.lift.Statement.{statement}
 use Rattle.math_utils.proofs.lift.Tie as tie

@@ -1,3 +1,5 @@
+-- Three refusals in the order of the tests: an even x, no bits, more than 64. Past them the low bits of the inverse modulo 2^64 are the inverse
+-- modulo 2^bits (`inverse-masked`).
 use borrow.Author.Needs.{needs}
 use mathlib.Core.Path.{_≡_, _∙_, ap, ap₂}
 use lib.Bits.{bitAnd}

@@ -1,3 +1,5 @@
+-- Three refusals in the order of the tests: k above 255, width 0, a width above 64. Past them the table's entry is the odd part modulo 2^64,
+-- and the mask leaves it modulo 2^bitwidth (`masked-to`).
 use borrow.Author.Needs.{needs}
 use mathlib.Core.Path.{_∙_, ap, ap₂}
 use mathlib.Core.List.{List}

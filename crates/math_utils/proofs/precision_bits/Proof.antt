@@ -1,3 +1,4 @@
+-- The test of the code is the test of `precision`; where it fails the weight is below the width, so that the difference can be taken.
 use borrow.Author.Needs.{needs}
 use borrow.Author.Tests.{le-leb, lt-leb}
 use Rattle.math_utils.proofs.precision_bits.Statement.{statement}

@@ -1,3 +1,4 @@
+-- The twos in k! and the ones among the binary digits of k make k, so that the ones can be taken off and leave the twos.
 use Rattle.math_utils.proofs.twos_in_factorial.Statement.{statement}
 use native.Mathlib.Omega.{arith}
 use Rattle.theory.specs.Twos.{legendre}

@@ -1,3 +1,4 @@
+-- The loop: the numbers before i are cut, the others as they were; the measure is what is left. The mask of a width to 64 leaves the remainder.
 use Rattle.basis_transform.proofs.boxes.cut.Statement.{statement}
 use Rattle.basis_transform.proofs.boxes.cut.Tie as tie
 use borrow.Author.Needs.{needs}

@@ -1,3 +1,5 @@
+-- The loop: the variables from i on, converted in the table as it is, give what was asked, and the stride is that of variable i;
+-- the measure is the number of variables left. A block along variable i fits the table and divides it, as `convert_variable` asks.
 use Rattle.basis_transform.proofs.convert.convert_all.Statement.{statement}
 use Rattle.basis_transform.proofs.convert.convert_all.Tie as tie
 use borrow.Author.Needs.{needs}

@@ -1,3 +1,4 @@
+-- One case a direction: with the direction known, the line of the contract is that of `divide_block` or of `undivide_block`.
 use borrow.Author.Needs.{needs}
 use Rattle.basis_transform.proofs.convert.convert_block.Statement.{statement}
 use Rattle.basis_transform.proofs.convert.convert_block.Tie as tie

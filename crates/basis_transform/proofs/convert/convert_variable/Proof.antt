@@ -1,3 +1,5 @@
+-- The first return is never taken: no table is as long as such a stride. The loop: the blocks before `from` are converted, the others as they were.
+-- The block size divides the length, so that nothing is left where no further block fits.
 use Rattle.basis_transform.proofs.convert.convert_variable.Statement.{statement}
 use Rattle.basis_transform.proofs.convert.convert_variable.Tie as tie
 use borrow.Author.Needs.{needs}

@@ -1,3 +1,5 @@
+-- The loop goes down: from place i on the pass is done, below i not yet, for whatever coefficients f the block was passed from; the measure is i.
+-- It ends at index done + 1, below which a pass changes nothing.
 use Rattle.basis_transform.proofs.convert.divide.Statement.{statement}
 use Rattle.basis_transform.proofs.Passes.{sum-of-product}
 use mathlib.Core.Path.{refl}

@@ -1,3 +1,5 @@
+-- The loop: `done` passes are made over the block as it came; the measure is degree - done. After degree - 1 passes the lines are those of
+-- falling factorials (`divided-falling`).
 use borrow.Author.Needs.{needs}
 use native.Mathlib.Omega.{arith}
 use native.Mathlib.Nat.{mul-le-mul-right}

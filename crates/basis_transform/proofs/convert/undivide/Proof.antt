@@ -1,3 +1,5 @@
+-- The loop goes up from index done + 1: before place i the pass is undone, from i on not yet, for whatever coefficients f; the measure is the places
+-- left. It ends below the highest index, which a pass does not change.
 use Rattle.basis_transform.proofs.convert.undivide.Statement.{statement}
 use Rattle.basis_transform.proofs.convert.undivide.Tie as tie
 use borrow.Author.Needs.{needs}

@@ -1,3 +1,5 @@
+-- The block that comes is the one of the sought powers after all passes. The loop: done - 1 of the passes are still there, and each turn undoes one;
+-- the measure is `done`. With none left the block has the powers (`undivided-powers`).
 use Rattle.basis_transform.proofs.convert.undivide_block.Statement.{statement}
 use Rattle.basis_transform.proofs.convert.undivide_block.Tie as tie
 use borrow.Author.Needs.{needs}

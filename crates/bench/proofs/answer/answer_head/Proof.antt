@@ -1,3 +1,4 @@
+-- The degree cut to a byte and the support cut to twenty are the parts of `lowHead` (`low-head`); the text is then that of `answer_parts`.
 use borrow.Author.Needs.{needs}
 use mathlib.Core.Path.{_∙_, ap}
 use native.Mathlib.Omega.{arith}

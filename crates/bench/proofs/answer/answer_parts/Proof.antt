@@ -1,3 +1,5 @@
+-- The number of cells that is told is at most 4,096, and 0 beside a refusal, so that the parts of both tables exist.
+-- Recovery's text on them is the asked one, whether the settings pass or stop (`text-recovered`).
 use borrow.Author.Needs.{needs}
 use mathlib.Core.Path.{sym, _∙_, ap}
 use mathlib.Core.List.{List}

@@ -1,3 +1,4 @@
+-- The text of `answer_head` is what the layout says of any bytes that lead to this reader and this table (`text-says`).
 use borrow.Author.Needs.{needs}
 use mathlib.Core.Path.{_≡_, _∙_, ap}
 use mathlib.Core.List.{List}

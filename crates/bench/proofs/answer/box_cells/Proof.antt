@@ -1,3 +1,5 @@
+-- Three returns: settings that are turned down, a box above 4,096 cells, and a box that fits. Width and total are tested as numbers of 32 bits,
+-- which changes no answer.
 use borrow.Author.Needs.{needs}
 use native.Mathlib.Omega.{arith}
 use mathlib.Core.Bool.{true}

@@ -1,3 +1,4 @@
+-- The contracts of the calls one after the other: narrowed settings, recovery and its number, the verdict, the text (`text-after`).
 use borrow.Author.Needs.{needs}
 use mathlib.Core.Path.{_∙_, ap}
 use mathlib.Core.List.{List}

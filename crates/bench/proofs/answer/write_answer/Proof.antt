@@ -1,3 +1,4 @@
+-- The test of the code is the test of `textFor`: the accepted text at number 0, the refused one at all others.
 use borrow.Author.Needs.{needs}
 use mathlib.Core.Path.{sym, _∙_, ap}
 use mathlib.Core.List.{List}

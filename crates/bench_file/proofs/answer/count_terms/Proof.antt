@@ -1,3 +1,5 @@
+-- The loop: the count and the non-zero coefficients from i on make the whole count, which is at most the length, so that the sum fits;
+-- the measure is what is left.
 use Rattle.bench_file.proofs.answer.count_terms.Statement.{statement}
 use borrow.Author.Needs.{needs}
 use native.Mathlib.Omega.{arith}

@@ -1,3 +1,4 @@
+-- 0 counts nothing by definition, and a coefficient that is not 0 counts 1 (`one-term-of-pos`).
 use borrow.Author.Needs.{needs}
 use Rattle.bench_file.specs.PrintLaws.{one-term-of-pos}
 use Rattle.bench_file.proofs.answer.one_term.Statement.{statement}

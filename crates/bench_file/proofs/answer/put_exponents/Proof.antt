@@ -1,3 +1,5 @@
+-- The loop: storing the digits of `rest` that are left at `next` gives the buffer that storing all digits of the cell at `at` gives;
+-- the measure is the variables left. A turn stores the remainder and goes on with the quotient (`exponents-next`).
 use Rattle.bench_file.proofs.answer.put_exponents.Statement.{statement}
 use borrow.Author.Needs.{needs}
 use native.Mathlib.Omega.{arith}

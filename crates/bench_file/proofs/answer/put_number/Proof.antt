@@ -1,3 +1,4 @@
+-- The lent part has 21 bytes, which `write_number` fills; put back, it is the number stored at its place (`number-in-part`).
 use borrow.Author.Needs.{needs}
 use mathlib.Core.Path.{refl}
 use Rattle.bench_file.specs.PrintLaws.{number-in-part}

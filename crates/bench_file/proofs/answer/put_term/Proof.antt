@@ -1,3 +1,5 @@
+-- A coefficient 0 has no line. Any other has one of 21 * variables + 22 bytes, which is the room asked for: exponents, coefficient and line end,
+-- stored one behind the other, are that line (`term-stored`).
 use borrow.Author.Needs.{needs}
 use mathlib.Core.Path.{sym, _∙_, ap}
 use native.Mathlib.Omega.{arith}

@@ -1,3 +1,5 @@
+-- The loop: storing the lines of the cells from `cell` on at `next` gives the buffer that storing all lines at `at` gives, and ends at the same place;
+-- the measure is the cells left.
 use Rattle.bench_file.proofs.answer.put_terms.Statement.{statement}
 use mathlib.Core.Path.{_≡_, refl, sym, _∙_, ap}
 use native.Mathlib.Omega.{arith}

@@ -1,3 +1,5 @@
+-- The text has 43 bytes and 21 * variables + 22 for each term, so that the two tests of the length say exactly whether it fits.
+-- Where it does, 0, the count, a line end and the terms, stored in turn, are the text (`accepted-stored`).
 use borrow.Author.Needs.{needs}
 use mathlib.Core.Path.{sym, _∙_, ap}
 use native.Mathlib.Omega.{arith}

@@ -1,3 +1,4 @@
+-- The text of a refusal has 22 bytes. In a shorter buffer there is no room; else the number and a line end are the text (`refused-stored`).
 use borrow.Author.Needs.{needs}
 use mathlib.Core.Path.{sym, _∙_, ap}
 use native.Mathlib.Omega.{arith}

@@ -1,3 +1,5 @@
+-- The loop: the first 20 columns, read from 0, give what those from i on give, read from `value`; the measure is the columns left.
+-- Columns that do not read, or another length, are the text of no number; else the last digit decides (`reads-last`).
 use denote.Ref.{now}
 use Rattle.bench_file.proofs.number.read_number.Statement.{statement}
 use borrow.Author.Needs.{needs}

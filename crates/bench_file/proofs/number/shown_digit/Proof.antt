@@ -1,3 +1,4 @@
+-- A blank where nothing is left, by definition; else the byte is that of the last digit (`shown-of-pos`).
 use borrow.Author.Needs.{needs}
 use Rattle.bench_file.specs.NumberLaws.{shown-of-pos}
 use Rattle.bench_file.proofs.number.shown_digit.Statement.{statement}

@@ -1,3 +1,5 @@
+-- Five returns: a blank before any digit, a blank after one, a digit that leaves 0 and so is a leading zero, any other digit, and no digit.
+-- The first two are `withColumn` unfolded, each of the others is a law of it.
 use borrow.Author.Needs.{needs}
 use mathlib.Core.Path.{_∙_}
 use Rattle.bench_file.specs.ColumnLaws.{column-leading-zero, column-number, column-ill}

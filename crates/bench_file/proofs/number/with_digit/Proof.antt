@@ -1,3 +1,4 @@
+-- Each ill return contradicts what one digit more needs, a byte from 48 to 57 and a number below 2^64 (`no-digit`); past the tests all of it holds.
 use borrow.Author.Needs.{needs}
 use mathlib.Core.Path.{sym}
 use native.Mathlib.Omega.{arith}

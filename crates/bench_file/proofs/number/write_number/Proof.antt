@@ -1,3 +1,5 @@
+-- Another length is left as it was. The loop goes down: the i columns that show `rest`, before the bytes from i on, are the number's text;
+-- the measure is i, and at 0 the bytes are all of it.
 use Rattle.bench_file.proofs.number.write_number.Statement.{statement}
 use denote.Ref.{now}
 use Rattle.bench_file.specs.NumberLaws.{number-end}

@@ -1,3 +1,4 @@
+-- Four returns, each a case of `firstByte`: a byte of a number, a line end inside a number, one after other than four numbers, and one after four.
 use borrow.Author.Needs.{needs}
 use mathlib.Core.Path.{sym, _∙_}
 use Rattle.bench_file.specs.StepLaws.{first-inside, first-broken, first-other, first-ends}

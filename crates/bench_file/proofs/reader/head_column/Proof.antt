@@ -1,3 +1,4 @@
+-- Four cases of `headColumn`: one of the first 20 columns or the last one, and each reads or is ill. The last column hands the number to `with_head`.
 use borrow.Author.Needs.{needs}
 use mathlib.Core.Path.{sym, _∙_}
 use Rattle.bench_file.specs.StepLaws.{head-opens, head-opens-ill, head-closes, head-closes-ill}

@@ -1,3 +1,4 @@
+-- Three cases of `lineEnd`: another byte is ill; after a line end the value goes to its place in the table, or there is none and the table stays.
 use borrow.Author.Needs.{needs}
 use lib.ListN.{set}
 use mathlib.Core.Path.{sym, _∙_, ap}

@@ -1,3 +1,4 @@
+-- One law of `step` for each stage: the line end after a value may change the table, the first three stages only the reader, the ill ones nothing.
 use borrow.Author.Needs.{needs}
 use mathlib.Core.Path.{sym, _∙_, ap}
 use Rattle.bench_file.specs.Steps.{state}

@@ -1,3 +1,5 @@
+-- Six returns, each a case of `secondByte`: a byte of a number; a line end inside a number, with a degree above 255, with more than twenty variables,
+-- with another count of indices; and a line end where all is right.
 use borrow.Author.Needs.{needs}
 use mathlib.Core.Path.{sym, _∙_}
 use Rattle.bench_file.specs.StepLaws.{second-inside, second-broken, second-high, second-many, second-other, second-ends}

@@ -1,3 +1,4 @@
+-- Four cases of `valueByte`: one of the first 20 columns or the last one, and each reads or is ill. After the last column a line end is due.
 use borrow.Author.Needs.{needs}
 use mathlib.Core.Path.{sym, _∙_}
 use Rattle.bench_file.specs.StepLaws.{value-opens, value-opens-ill, value-closes, value-closes-ill}

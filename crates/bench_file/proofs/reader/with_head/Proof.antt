@@ -1,3 +1,4 @@
+-- The two cases of `withHead`: below 24 numbers there is a place for one more, from 24 on the first two lines are ill-formed.
 use borrow.Author.Needs.{needs}
 use mathlib.Core.Path.{sym, _∙_}
 use Rattle.bench_file.specs.StepLaws.{with-head-room, with-head-full}

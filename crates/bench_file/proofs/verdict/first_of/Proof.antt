@@ -1,3 +1,4 @@
+-- Where the first number is 0 the definition goes on to the other; where it is not, it is the answer (`first-of-pos`).
 use borrow.Author.Needs.{needs}
 use Rattle.bench_file.specs.VerdictLaws.{first-of-pos}
 use Rattle.bench_file.proofs.verdict.first_of.Statement.{statement}

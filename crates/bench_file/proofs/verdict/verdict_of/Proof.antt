@@ -1,3 +1,4 @@
+-- Four returns, by what was read and, for a whole input, by the count. 12 and 9 are the numbers that `refusal_code` says for the two refusals.
 use borrow.Author.Needs.{needs}
 use mathlib.Core.Path.{_∙_, sym, ap}
 use Rattle.meaning.specs.Settings.{first}

@@ -1,3 +1,4 @@
+-- A length that 8 does not divide is that of no count (`holds-uneven`); where it does, the quotient is the count (`holds-even`).
 use Rattle.byte_calls.proofs.checks.holds.Statement.{statement}
 use denote.Ref.{now}
 use Rattle.byte_calls.specs.CallLaws.{holds-uneven, holds-even}

@@ -1,3 +1,4 @@
+-- Where `strict` holds, the conjunction is the test of the degree; where it does not, it is false.
 use borrow.Author.Needs.{needs}
 use Rattle.byte_calls.proofs.checks.zero_degree.Statement.{statement}
 use Rattle.byte_calls.proofs.checks.zero_degree.Tie as tie

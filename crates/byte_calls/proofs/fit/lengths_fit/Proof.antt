@@ -1,3 +1,4 @@
+-- The conjunction is decided from the left: weights that fail make it false, then targets that fail; where both hold, it is what `out` answers.
 use Rattle.byte_calls.proofs.fit.lengths_fit.Statement.{statement}
 use borrow.Author.Needs.{needs}
 use borrow.Author.Tests.{not-true, not-false}

@@ -1,3 +1,4 @@
+-- The reply is the one of `poly::is_valid`; `deliver_truth` tells it as a number, and 1 or 0 at `value`.
 use borrow.Author.Needs.{needs}
 use Rattle.cobra.proofs.boxes.cobra_box_is_valid.Statement.{statement}
 use Rattle.cobra.proofs.boxes.cobra_box_is_valid.Tie as tie

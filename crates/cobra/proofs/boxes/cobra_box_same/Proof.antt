@@ -1,3 +1,4 @@
+-- The reply on the two forms is the one of `poly::same`; `deliver_truth` tells it as a number, and 1 or 0 at `value`.
 use borrow.Author.Needs.{needs}
 use Rattle.cobra.proofs.boxes.cobra_box_same.Statement.{statement}
 use Rattle.cobra.proofs.boxes.cobra_box_same.Tie as tie

@@ -1,3 +1,4 @@
+-- The reply is the one of `poly::value`; `deliver` tells it as a number, and the value or 0 at `value`.
 use borrow.Author.Needs.{needs}
 use Rattle.cobra.proofs.boxes.cobra_box_value.Statement.{statement}
 use Rattle.cobra.proofs.boxes.cobra_box_value.Tie as tie

@@ -1,3 +1,4 @@
+-- The fit on bytes has both contracts: its reply, which `deliver` tells at `degree_used`, and what it leaves in `out`, which nothing touches after it.
 use borrow.Author.Needs.{needs}
 use mathlib.Core.Path.{_∙_}
 use Rattle.cobra.proofs.bytes.cobra_fit.Statement.{statement}

@@ -1,3 +1,4 @@
+-- The reply is the one of `byte_calls::value`, on what the bytes hold; `deliver` tells it as a number and a value.
 use borrow.Author.Needs.{needs}
 use Rattle.cobra.proofs.bytes.cobra_value.Statement.{statement}
 use Rattle.cobra.proofs.bytes.cobra_value.Tie as tie

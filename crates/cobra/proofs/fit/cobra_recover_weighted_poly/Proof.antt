@@ -1,3 +1,4 @@
+-- The reply is the fit's, told by `deliver`; answer, matrix and right side stay as the fit leaves them.
 use borrow.Author.Needs.{needs}
 use mathlib.Core.Path.{_∙_}
 use Rattle.cobra.proofs.fit.cobra_recover_weighted_poly.Statement.{statement}

@@ -1,3 +1,4 @@
+-- Two refusals in the order of the tests: 11 for an index from 20 on, then 9 for the length. Past them the key is the table, and the exponent is its entry.
 use borrow.Author.Needs.{needs}
 use mathlib.Core.Path.{_∙_, ap}
 use Rattle.meaning.specs.Leaves.{exponentReply}

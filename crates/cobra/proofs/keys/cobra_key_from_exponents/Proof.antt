@@ -1,3 +1,5 @@
+-- Three refusals in the order of the tests: 11 for the number of variables, 11 for too few exponents, 9 for the key's table; the table stays.
+-- Past them the key is made, and `store` leaves it in the table.
 use borrow.Author.Needs.{needs}
 use mathlib.Core.Path.{_∙_}
 use borrow.Author.Tests.{eq-eqb, ne-eqb, le-leb, lt-leb}

@@ -1,3 +1,5 @@
+-- Three refusals in the order of the tests: 11 for the number of variables, 11 for too short an `out`, 9 for the key's table; `out` stays.
+-- Past them the key is the table, and number and entries are those of the key's `to_exponents`.
 use borrow.Author.Needs.{needs}
 use mathlib.Core.List.{List}
 use Prim.Native.Nat.{ℕ}

@@ -1,3 +1,5 @@
+-- Two refusals in the order of the tests: 11 for the index, then 9 for the length; the table stays. Past them the table is read as a key, one exponent
+-- is set and the key is stored again, so that the table has one entry set.
 use borrow.Author.Needs.{needs}
 use mathlib.Core.List.{List}
 use Prim.Native.Nat.{ℕ}

@@ -1,3 +1,4 @@
+-- The key of the first twenty of twenty bytes is the table (`key-of-whole`).
 use borrow.Author.Needs.{needs}
 use Rattle.cobra.proofs.Whole.{key-of-whole}
 use mathlib.Core.Path.{_∙_}

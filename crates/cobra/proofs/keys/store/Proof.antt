@@ -1,3 +1,4 @@
+-- A key has twenty exponents; all of them, written to a table of twenty bytes, leave nothing of what was there (`stored-whole`).
 use borrow.Author.Needs.{needs}
 use lib.ListN.{length}
 use denote.Ref.{now}

@@ -1,3 +1,4 @@
+-- The reply is the one of `math_utils::degree_cap`; `deliver` tells it as a number, and the cap or 0 at `value`.
 use borrow.Author.Needs.{needs}
 use Rattle.cobra.proofs.leaves.cobra_degree_cap.Statement.{statement}
 use Rattle.cobra.proofs.leaves.cobra_degree_cap.Tie as tie

@@ -1,3 +1,4 @@
+-- The reply is the one of `math_utils::mod_inverse_odd`; `deliver` tells it as a number, and the inverse or 0 at `value`.
 use borrow.Author.Needs.{needs}
 use Rattle.cobra.proofs.leaves.cobra_mod_inverse_odd.Statement.{statement}
 use Rattle.cobra.proofs.leaves.cobra_mod_inverse_odd.Tie as tie

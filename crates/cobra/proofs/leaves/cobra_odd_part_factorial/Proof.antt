@@ -1,3 +1,4 @@
+-- The reply is the one of `math_utils::odd_part_factorial`; `deliver` tells it as a number, and the odd part or 0 at `value`.
 use borrow.Author.Needs.{needs}
 use Rattle.cobra.proofs.leaves.cobra_odd_part_factorial.Statement.{statement}
 use Rattle.cobra.proofs.leaves.cobra_odd_part_factorial.Tie as tie

@@ -1,3 +1,4 @@
+-- In either case of the match the callee's answer is known, and `bitsOf` takes it to the bits, or to 0 where there are none.
 use borrow.Author.Needs.{needs}
 use mathlib.Core.Path.{sym, _∙_, ap}
 use Rattle.math_utils.specs.Precision.{bitsOf}

@@ -1,3 +1,4 @@
+-- The four contracts are the solver's: the number is that of its outcome, and matrix, right side and answer stay as it leaves them.
 use borrow.Author.Needs.{needs}
 use mathlib.Core.Path.{_∙_}
 use Rattle.cobra.proofs.systems.cobra_solve_2adic.Statement.{statement}

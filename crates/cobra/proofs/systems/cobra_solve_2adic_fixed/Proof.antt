@@ -1,3 +1,5 @@
+-- Five refusals in the order of the tests, each by a law of its own: the width below and above its range, then the three lengths.
+-- Past them the solver's answer has four entries, as the lent one has, so that it is copied (`four-solved`).
 use borrow.Author.Needs.{needs}
 use mathlib.Core.Path.{ap₂, _∙_}
 use mathlib.Core.Bool.{_&&_}

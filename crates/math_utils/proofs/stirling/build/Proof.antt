@@ -1,3 +1,5 @@
+-- Three refusals in the order of the tests: the width below and above its range, then the length; the table stays. Past them `fill` leaves the entries
+-- of all cells, which are the table of the kind (`table-entries`). The side is small, so that its square fits.
 use borrow.Author.Needs.{needs}
 use mathlib.Core.Path.{_≡_, _∙_, sym, ap}
 use Prim.Native.Nat.{ℕ, suc, _+_, _*_, _^_, _<_}

@@ -1,3 +1,5 @@
+-- Four cases: the corner is 1, the left column and the top row are 0, and any other cell is made of two cells of the row before, which are filled
+-- (`entry-inner`). Both come before the cell, since there is a row and a column before it.
 use borrow.Author.Needs.{needs}
 use mathlib.Core.Path.{_∙_, ap₂}
 use Prim.Native.Nat.{_-_, _/_, _%_, _≤_}

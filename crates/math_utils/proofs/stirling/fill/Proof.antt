@@ -1,3 +1,4 @@
+-- The loop: the cells before `cell` have their entries, as `entry_at` asks, and the others are as they were; the measure is the cells left.
 use Rattle.math_utils.proofs.stirling.fill.Statement.{statement}
 use lib.ListN.{length-set}
 use borrow.Author.Needs.{needs}

@@ -1,3 +1,4 @@
+-- One case a kind: the contracts of product and difference, or of product and sum, are the recurrence, since a width to 64 is not cut.
 use borrow.Author.Needs.{needs}
 use native.Mathlib.Nat.{min-eq-left}
 use Rattle.math_utils.proofs.stirling.next_entry.Statement.{statement}

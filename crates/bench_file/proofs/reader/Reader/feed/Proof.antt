@@ -1,3 +1,4 @@
+-- The loop: the bytes from i on, fed to the reader and table at hand, lead where the whole piece leads from the start; the measure is the bytes left.
 use Rattle.bench_file.proofs.reader.Reader.feed.Statement.{statement}
 use mathlib.Core.Path.{_≡_, refl, sym, _∙_}
 use denote.Ref.{now}

@@ -1,3 +1,4 @@
+-- One law for each stage. Where a value is due the column decides: 0 is a whole input, inside a number the values are ill-formed.
 use borrow.Author.Needs.{needs}
 use mathlib.Core.Path.{sym}
 use Rattle.bench_file.specs.ReaderLaws.{reading-first, reading-second, reading-value, reading-open, reading-line-end, reading-ill-head, reading-ill-values}
