@@ -1,1 +1,2 @@
+-- The one module: forms with one degree for all variables.
 pub mod Forms

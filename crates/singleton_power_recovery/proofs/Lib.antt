@@ -1,1 +1,2 @@
+-- The one module: what the degree cap says of width and sizes.
 pub mod Caps

@@ -1,3 +1,4 @@
+-- Laws of the bare solver: rows, a row cleared, a column eliminated, back-substitution, the whole; then of the four by four solver: its matrix, its call.
 pub mod RowLaws
 pub mod ClearLaws
 pub mod ColumnLaws

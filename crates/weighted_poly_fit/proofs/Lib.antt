@@ -1,3 +1,4 @@
+-- Laws of the fit: the columns listed and counted, the matrix and its entries, the box of the answer, and the call in its parts.
 pub mod Pasted
 pub mod Listed
 pub mod ColumnCount

@@ -1,3 +1,4 @@
+-- The loop: the first i entries of the list are the exponents, the others as they were; at the end i is `count` (`filled-part`).
 use Rattle.mono.proofs.copy_out.Statement.{statement}
 use mathlib.Core.Path.{refl}
 use borrow.Author.Needs.{needs}

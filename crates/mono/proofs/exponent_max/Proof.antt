@@ -1,3 +1,4 @@
+-- The loop: `found` is the largest of the first i exponents; `larger` takes in one more, as the law `largest-last` does.
 use Rattle.mono.proofs.exponent_max.Statement.{statement}
 use Prim.Native.Nat.{ℕ, max}
 use native.Mathlib.Numerals.{add-one}

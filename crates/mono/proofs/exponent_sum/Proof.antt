@@ -1,3 +1,4 @@
+-- The loop: `total` is the sum of the first i exponents, and at most 255 i, so that no sum of twenty leaves 32 bits.
 use Rattle.mono.proofs.exponent_sum.Statement.{statement}
 use Prim.Native.Nat.{ℕ, _+_, _*_}
 use native.Mathlib.Numerals.{add-one}

@@ -1,3 +1,4 @@
+-- The loop: `total` is the twos in the factorials of the first i exponents, and at most 255 i, since the factorial of a byte has at most 255 twos.
 use Rattle.mono.proofs.factorial_twos.Statement.{statement}
 use Prim.Native.Nat.{ℕ, _+_, _*_}
 use native.Mathlib.Numerals.{add-one}

@@ -1,3 +1,4 @@
+-- The loop: the first i exponents are the list's, the others as they were. These are zeros, and so what the contract says past `count`.
 use Rattle.mono.proofs.padded.Statement.{statement}
 use mathlib.Core.Path.{refl, _∙_, ap}
 use mathlib.Core.Bool.{cond}

@@ -1,3 +1,4 @@
+-- Copy, differences modulo 2^64 and extraction are recovery's steps: `recovered-of-steps` gives verdict and table for both returns.
 use borrow.Author.Needs.{needs}
 use mathlib.Core.Path.{_≡_, sym, _∙_, ap}
 use mathlib.Core.Bool.{Bool, cond}

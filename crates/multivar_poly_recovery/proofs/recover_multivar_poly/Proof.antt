@@ -1,3 +1,4 @@
+-- A refusal of `check_tables` is passed on, with `out` as it was. Where it accepts there are at most twenty variables, and `recover_from_grid` decides.
 use borrow.Author.Needs.{needs}
 use mathlib.Core.Path.{_≡_, sym, _∙_, ap}
 use mathlib.Core.List.{List}

@@ -1,3 +1,4 @@
+-- A refusal of the settings is passed on. Where they pass they count the cells, and both lengths are held against the count, first `given`, then `out`.
 use borrow.Author.Needs.{needs}
 use mathlib.Core.Path.{_∙_, sym, ap, ap₂}
 use mathlib.Core.Bool.{Bool, _&&_, cond}

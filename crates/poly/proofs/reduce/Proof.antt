@@ -1,3 +1,4 @@
+-- Settings, then the length, then the walk over the box, whose degrees are a part of twenty copies; `Replies` has a lemma for each of the three returns.
 use borrow.Author.Needs.{needs}
 use mathlib.Core.Path.{_∙_, sym, ap}
 use mathlib.Core.Bool.{false}

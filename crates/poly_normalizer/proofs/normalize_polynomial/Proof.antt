@@ -1,3 +1,4 @@
+-- A refusal of the conversion is passed on, with `out` as it was. Where it accepts, `reduce` accepts what it left and makes it the normal form.
 use borrow.Author.Needs.{needs}
 use mathlib.Core.Path.{sym, _∙_, ap}
 use Prim.Native.Nat.{ℕ}

@@ -1,3 +1,4 @@
+-- The loop: i is at most the text's length, so that the byte read next is in the text; the measure is what is left of it.
 use Rattle.replay_calls.proofs.replay.Statement.{statement}
 use borrow.Author.Needs.{needs}
 use Prim.Native.Nat.{_≤_, _-_}

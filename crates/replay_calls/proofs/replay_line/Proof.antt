@@ -1,3 +1,4 @@
+-- Bounds only: the tests before `run` leave five numbers and `size` cells to read, `size` cells of room, and k variables to lend.
 use borrow.Author.Needs.{needs}
 use mathlib.Core.Path.{sym}
 use native.Mathlib.Omega.{arith}

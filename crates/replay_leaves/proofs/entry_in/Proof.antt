@@ -1,3 +1,4 @@
+-- Bounds only: the side is a byte and one, so its square fits; one test of the room's length is before the lent part, one before the entry is read.
 use borrow.Author.Needs.{needs}
 use mathlib.Core.Path.{sym}
 use Prim.Native.Nat.{_+_, _^_, _<_}

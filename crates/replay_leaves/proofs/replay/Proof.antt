@@ -1,3 +1,4 @@
+-- The loop: i is at most the text's length, so that each byte handed to `read_byte` is in the text.
 use Rattle.replay_leaves.proofs.replay.Statement.{statement}
 use borrow.Author.Needs.{needs}
 use Prim.Native.Nat.{_≤_, _-_}

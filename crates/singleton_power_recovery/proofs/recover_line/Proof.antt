@@ -1,3 +1,4 @@
+-- The settings of a line pass, so that recovery accepts or says 6: `single-refused` closes the one return, `single-accepted`, with 0 written, the other.
 use borrow.Author.Needs.{needs}
 use mathlib.Core.Path.{sym, _∙_, ap}
 use Prim.Native.Nat.{pred}

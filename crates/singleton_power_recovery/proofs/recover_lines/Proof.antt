@@ -1,3 +1,4 @@
+-- The loop: the lines before `from` are accepted and their answers are in `out`. `lines-fail` closes the return at a refused line, `lines-done` the end.
 use Rattle.singleton_power_recovery.proofs.recover_lines.Statement.{statement}
 use mathlib.Core.Path.{sym, _∙_, subst}
 use mathlib.Core.Bool.{Bool}

@@ -1,3 +1,5 @@
+-- Each refusal is the first cause, by the tests that were passed before it: 2, 3, 9 for the values, 9 for `out`. Then the lines decide: the answers, or 6
+-- and zeros.
 use borrow.Author.Needs.{needs}
 use mathlib.Core.Path.{_≡_, sym, _∙_, ap}
 use mathlib.Core.Bool.{Bool, cond}

@@ -1,3 +1,4 @@
+-- The loop: the first i numbers are 0, the others as they were; at the end the table is that of the rule 0 (`filled-done`).
 use Rattle.tables.proofs.clear.Statement.{statement}
 use borrow.Author.Needs.{needs}
 use native.Mathlib.Omega.{arith}

@@ -1,3 +1,4 @@
+-- With different lengths nothing is done. Else the loop: the first i numbers are those of `from`, the others as they were.
 use Rattle.tables.proofs.copy.Statement.{statement}
 use borrow.Author.Needs.{needs}
 use native.Mathlib.Omega.{arith}

@@ -1,3 +1,4 @@
+-- The one test decides: from variable 20 on it is refused, below that the exponent is read. The key comes back untouched both times.
 use borrow.Author.Needs.{needs}
 use borrow.Author.Tests.{lt-ltb, le-ltb}
 use mathlib.Core.Path.{refl}

@@ -1,3 +1,4 @@
+-- Three returns: num_vars above 20, or above the list's length, with `zero`'s key; else the key is `padded`'s list.
 use borrow.Author.Needs.{needs}
 use borrow.Author.Tests.{le-leb, lt-leb}
 use Rattle.mono.proofs.MonomialKey.from_exponents.Statement.{statement}

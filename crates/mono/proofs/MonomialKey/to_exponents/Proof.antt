@@ -1,3 +1,4 @@
+-- Three returns: num_vars above 20, or above the list's length, with the list as it was; else the list is what `copy_out` leaves.
 use borrow.Author.Needs.{needs}
 use borrow.Author.Tests.{le-leb, lt-leb}
 use Rattle.mono.proofs.MonomialKey.to_exponents.Statement.{statement}

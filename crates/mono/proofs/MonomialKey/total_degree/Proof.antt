@@ -1,3 +1,4 @@
+-- Above 20 variables it is refused; up to 20 `exponent_sum` may be called, and its sum is the answer.
 use borrow.Author.Needs.{needs}
 use borrow.Author.Tests.{le-leb, lt-leb}
 use mathlib.Core.Path.{ap}

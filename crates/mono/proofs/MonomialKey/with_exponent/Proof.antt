@@ -1,3 +1,4 @@
+-- The one test decides: from variable 20 on the key is as it was, below that one exponent is written, as in `exponentSet`.
 use borrow.Author.Needs.{needs}
 use borrow.Author.Tests.{lt-ltb, le-ltb}
 use Rattle.mono.proofs.MonomialKey.with_exponent.Statement.{statement}

@@ -1,3 +1,4 @@
+-- Twenty zeros are the table of the rule 0, by computation.
 use Rattle.mono.proofs.MonomialKey.zero.Statement.{statement}
 use mathlib.Core.Path.{refl}
 use Rattle.meaning.specs.Tables.{tabulate}

@@ -1,3 +1,4 @@
+-- The loop: the variables before i are done and `stride` is the next one's; differences along the others make the table that of the whole box.
 use borrow.Author.Needs.{needs}
 use Rattle.theory.specs.FlatLoops.{Variables, variables-start, block-fits, block-divides, variables-step, variables-done}
 use Rattle.theory.specs.InPlace.{newton-local}

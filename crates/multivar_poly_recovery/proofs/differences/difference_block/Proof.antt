@@ -1,3 +1,4 @@
+-- Stride 1 is a single line. Else the loop: `low` is stride * (n + 1) once n passes are done; at the end of the block these are d or more, which is all.
 use borrow.Author.Needs.{needs}
 use Rattle.multivar_poly_recovery.proofs.Passes.{Passes, passes-start, passes-step, passes-done}
 use Rattle.multivar_poly_recovery.proofs.TwoPasses.{block-of-line}

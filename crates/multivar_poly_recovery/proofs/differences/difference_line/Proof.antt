@@ -1,3 +1,4 @@
+-- The loop: `low` is n + 1 once n passes are done, and each turn makes two. At the end n is the degree, or one more, which changes nothing.
 use borrow.Author.Needs.{needs}
 use Prim.Native.Nat.{_-_}
 use native.Mathlib.Omega.{arith}

@@ -1,3 +1,4 @@
+-- The loop comes down: from place i on the numbers are one pass further, below it they are as they were; the measure is i.
 use borrow.Author.Needs.{needs}
 use Rattle.multivar_poly_recovery.proofs.Passes.{Passing, passing-start, passing-step, passing-done}
 use Rattle.multivar_poly_recovery.proofs.differences.difference_pass.Statement.{statement}

@@ -1,3 +1,5 @@
+-- The loop goes up: below `place` the numbers are two passes further, from there on as they were. `number` is what the place before it had
+-- at first, and `once` is what the second pass takes away at `place`.
 use borrow.Author.Needs.{needs}
 use Prim.Native.Nat.{_-_}
 use native.Mathlib.Omega.{arith}

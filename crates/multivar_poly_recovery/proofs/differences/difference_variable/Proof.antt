@@ -1,3 +1,4 @@
+-- The first return is never taken: no table is that long. The loop: the blocks before `from` are done, the others as they were.
 use mathlib.Core.Path.{_≡_, _∙_}
 use Rattle.theory.specs.FlatLoops.{Blocks, blocks-start, blocks-step, blocks-done}
 use Rattle.theory.specs.Parts.{length-part}

@@ -1,3 +1,5 @@
+-- The measure is the number of degrees. A box that is one row is `extract_row`'s. Else the loop: the sub-boxes below exponent e pass and are done, and
+-- `total` is q and the twos in e!; the first sub-box that fails makes the box fail.
 use Prim.Native.Nat.{ℕ, _+_, _-_, _≤_, _<_}
 use borrow.Author.Needs.{needs}
 use borrow.Author.Tests.{not-true, not-false}

@@ -1,3 +1,4 @@
+-- The loop: the cells below exponent e have their twos and inverses, and `total` is the twos in e!; `copy_cells` puts the cells of e behind them.
 use native.Mathlib.Omega.{arith}
 use Rattle.multivar_poly_recovery.proofs.RowTables.{Copies, copies-start, copies-behind, copies-fit, copies-small, copies-step, copies-count, copies-done, take-more, cells-bound, total-le, total-step}
 use Prim.Native.Nat.{suc, _+_, _*_, _-_, _≤_, _<_}

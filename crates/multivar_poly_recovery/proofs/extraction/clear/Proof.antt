@@ -1,3 +1,4 @@
+-- The loop: the numbers below i are 0, the others as they were; the measure is what is left.
 use native.Mathlib.Omega.{arith}
 use borrow.Author.Needs.{needs}
 use Rattle.multivar_poly_recovery.proofs.extraction.clear.Statement.{statement}

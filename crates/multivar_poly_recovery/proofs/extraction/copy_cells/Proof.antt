@@ -1,3 +1,4 @@
+-- The loop: in both tables the first r cells from `from` on are put in, and what is before `from`, where they are copied from, is as it was.
 use native.Mathlib.Omega.{arith}
 use Rattle.multivar_poly_recovery.proofs.Added.{added-fewer, added-start, added-step}
 use Rattle.multivar_poly_recovery.specs.Extracted.{Added}

@@ -1,3 +1,4 @@
+-- No variable is behind the whole box, so `extract_box` begins with no twos and inverse 1, and its promise is the answer; after a no `clear` leaves zeros.
 use borrow.Author.Needs.{needs}
 use mathlib.Core.Path.{sym, _∙_, ap}
 use Prim.Native.Nat.{ℕ, zero-le}

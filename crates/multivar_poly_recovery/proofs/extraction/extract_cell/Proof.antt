@@ -1,3 +1,4 @@
+-- Four returns, a lemma of `Cells` for each: with the width's twos or more the difference is 0 or not, with fewer it survives the shifts or not.
 use borrow.Author.Needs.{needs}
 use Rattle.multivar_poly_recovery.proofs.Cells.{heavy-zero, heavy-refused, light-refused, light-passes}
 use Rattle.multivar_poly_recovery.proofs.extraction.extract_cell.Statement.{statement}

@@ -1,3 +1,4 @@
+-- The loop: the first i differences pass and are now coefficients. `row-fails` closes the return at one that does not pass, `row-done` the end.
 use native.Mathlib.Omega.{arith}
 use Rattle.multivar_poly_recovery.proofs.Rows.{InRow, row-start, row-step, row-fails, row-done}
 use Prim.Native.Nat.{_-_}

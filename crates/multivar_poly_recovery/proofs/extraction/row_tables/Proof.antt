@@ -1,3 +1,4 @@
+-- The loop: the tables are those of the first i variables, which have `size` cells, 256 at most; both returns say just this.
 use native.Mathlib.Omega.{arith}
 use Rattle.multivar_poly_recovery.proofs.RowTables.{Rows, rows-start, rows-step, product-small}
 use Prim.Native.Nat.{_-_}

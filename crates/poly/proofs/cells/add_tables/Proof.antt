@@ -1,3 +1,4 @@
+-- The loop: the first i numbers of `out` are the sums modulo 2^64, the others as they were; the measure is what is left.
 use Rattle.poly.proofs.cells.add_tables.Statement.{statement}
 use borrow.Author.Needs.{needs}
 use native.Mathlib.Omega.{arith}

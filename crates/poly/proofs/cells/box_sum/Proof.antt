@@ -1,3 +1,4 @@
+-- Sums modulo 2^64, each then taken modulo its bound, are the sum of the boxes: for widths to 64 the bounds divide 2^64 (`reduced-sums`).
 use borrow.Author.Needs.{needs}
 use mathlib.Core.Path.{_∙_, ap}
 use Prim.Native.Nat.{ℕ, _+_, _%_, _^_}

@@ -1,3 +1,4 @@
+-- Below 2 the low end of the range decides; from 2 on the test against 64 is what is left of it.
 use mathlib.Core.Bool.{_&&_}
 use Rattle.poly.proofs.checks.width_fits.Statement.{statement}
 use mathlib.Core.Path.{sym, ap}

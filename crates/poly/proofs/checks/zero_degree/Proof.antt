@@ -1,3 +1,4 @@
+-- Where `strict` holds the test of the degree is the answer; where it does not the answer is no for every degree.
 use borrow.Author.Needs.{needs}
 use Rattle.poly.proofs.checks.zero_degree.Statement.{statement}
 use Rattle.poly.proofs.checks.zero_degree.Tie as tie

@@ -1,3 +1,4 @@
+-- The loop: i is at most the table's length, so that the number printed next is in the table. Nothing more is promised.
 use borrow.Author.Needs.{needs}
 use Prim.Native.Nat.{_≤_, _-_}
 use lib.ListN.{length}

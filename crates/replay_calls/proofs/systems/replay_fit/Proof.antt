@@ -1,3 +1,4 @@
+-- Bounds only: the remainders keep 8 + 2 * rows, and the parts of the local tables, to 128 at most; the lengths of variables and room are tested.
 use borrow.Author.Needs.{needs}
 use mathlib.Core.Path.{sym}
 use native.Mathlib.Omega.{arith}

@@ -1,3 +1,4 @@
+-- Bounds only: the remainders keep 5 + size + rows, and the parts of the local tables, below 128; the answer's room is tested.
 use borrow.Author.Needs.{needs}
 use mathlib.Core.Path.{sym}
 use native.Mathlib.Omega.{arith}

@@ -1,3 +1,4 @@
+-- Three returns: a number that has room is put away, one past the 128th is dropped, and none is being read.
 use borrow.Author.Needs.{needs}
 use borrow.Author.Tests.{lt-ltb, le-ltb}
 use Rattle.replay_text.proofs.Line.closed.Statement.{statement}

@@ -1,3 +1,4 @@
+-- The callees' contracts make the value ten times the old one plus the digit, modulo 2^64; numbers and count are carried over.
 use borrow.Author.Needs.{needs}
 use mathlib.Core.Path.{_∙_, ap}
 use mathlib.Core.Bool.{true}

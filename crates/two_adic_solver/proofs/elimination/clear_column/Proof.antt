@@ -1,3 +1,4 @@
+-- The loop: the first `row` rows are as after the column's step, the others as before it. Past its span the pivot row is 0, so that nothing is left out.
 use Rattle.two_adic_solver.proofs.elimination.clear_column.Statement.{statement}
 use mathlib.Core.Path.{refl, sym, ap, _∙_}
 use Rattle.theory.specs.Trailing.{twosIn-left-odd}

@@ -1,3 +1,5 @@
+-- Three returns: a used row stays; one with 0 in the column stays, its multiple being 0; any other is less q times the pivot row, which is 0 outside the
+-- columns that are subtracted.
 use borrow.Author.Needs.{needs}
 use Rattle.two_adic_solver.proofs.ClearLaws.{quotient-told}
 use Prim.Native.Nat.{_*_, _+_, _<_}

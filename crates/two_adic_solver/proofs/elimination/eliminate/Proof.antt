@@ -1,3 +1,4 @@
+-- The loop: whatever state the tables showed at first, they show it after `column` steps of the elimination; the measure is the columns left.
 use Rattle.two_adic_solver.proofs.elimination.eliminate.Statement.{statement}
 use mathlib.Core.Path.{sym, ap, _∙_}
 use native.Mathlib.Omega.{arith}

@@ -1,3 +1,4 @@
+-- Without a pivot the step changes no row. With one, its twos are below the width, and once its row is marked `clear_column` makes the step.
 use borrow.Author.Needs.{needs}
 use native.Mathlib.Omega.{arith}
 use Prim.Native.Nat.{_<_}

@@ -1,3 +1,4 @@
+-- The three parts of success in order, as in the bare solver with four columns: every column has a pivot, unused rows vanish, back-substitution divides.
 use Rattle.two_adic_solver.proofs.fixed.conclude.Statement.{statement}
 use mathlib.Core.Path.{sym, _∙_}
 use borrow.Author.Tests.{not-true, not-false}

@@ -1,3 +1,4 @@
+-- The rows one behind the other have sixteen entries, reduced and then eliminated: `eliminated-told`, with four columns, closes the return.
 use Rattle.two_adic_solver.proofs.fixed.eliminate_rows.Statement.{statement}
 use mathlib.Core.Path.{sym, ap, _∙_}
 use Prim.Native.Nat.{_*_}

@@ -1,3 +1,4 @@
+-- A bad width is the bare solver's 3 (`fixed-width`). Else the arrays are four by four, and what `solve_with` ends in is the bare solver's answer.
 use Rattle.two_adic_solver.proofs.fixed.solve_2adic_fixed.Statement.{statement}
 use mathlib.Core.Path.{refl}
 use Rattle.theory.specs.Ranges.{between-low, between-high}

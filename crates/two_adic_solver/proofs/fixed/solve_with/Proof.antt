@@ -1,3 +1,4 @@
+-- On the rows one behind the other: `ended` gives `conclude` what it asks for; its yes is closed by `finished-accepted`, its no by `finished-refused`.
 use Rattle.two_adic_solver.proofs.fixed.solve_with.Statement.{statement}
 use mathlib.Core.Path.{_≡_}
 use native.Mathlib.Omega.{arith}

@@ -1,3 +1,4 @@
+-- The loop: the matrix is four by four, and its first `row` rows are as after the column's step. No column lies past those that are subtracted.
 use Rattle.two_adic_solver.proofs.fixed_elimination.clear_column.Statement.{statement}
 use mathlib.Core.Path.{sym, _∙_}
 use Prim.Native.Nat.{_-_, _<_, _≤_}

@@ -1,3 +1,4 @@
+-- A used row and one with 0 in the column stay; any other is less q times the pivot row from the column to the end, so that no column is left out.
 use Rattle.two_adic_solver.proofs.fixed_elimination.clear_row.Statement.{statement}
 use mathlib.Core.Path.{sym, _∙_}
 use Prim.Native.Nat.{_-_, _<_}

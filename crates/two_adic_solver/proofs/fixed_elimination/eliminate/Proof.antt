@@ -1,3 +1,4 @@
+-- The loop: the matrix is four by four, and its rows one behind the other show the state after `column` steps.
 use Rattle.two_adic_solver.proofs.fixed_elimination.eliminate.Statement.{statement}
 use mathlib.Core.Path.{sym, _∙_}
 use Prim.Native.Nat.{_-_}

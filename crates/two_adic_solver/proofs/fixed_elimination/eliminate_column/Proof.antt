@@ -1,3 +1,4 @@
+-- The right side has four rows, so the lowest of four is the step's pivot. At 4 there is none and no row changes; else `clear_column` makes the step.
 use Rattle.two_adic_solver.proofs.fixed_elimination.eliminate_column.Statement.{statement}
 use mathlib.Core.Path.{sym, _∙_}
 use Prim.Native.Nat.{_<_}

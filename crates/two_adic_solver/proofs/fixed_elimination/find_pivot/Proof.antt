@@ -1,3 +1,4 @@
+-- The loop: `row` and `least` are the lowest of the first i rows. Entry i of the column is at place i * 4 + column of the rows one behind the other.
 use Rattle.two_adic_solver.proofs.fixed_elimination.find_pivot.Statement.{statement}
 use mathlib.Core.Path.{sym, ap, _∙_}
 use mathlib.Core.Bool.{cond, false}

@@ -1,3 +1,4 @@
+-- The loop: the first `row` rows are reduced, the others as they were; `reduced-done` says it of the rows one behind the other.
 use Rattle.two_adic_solver.proofs.fixed_elimination.reduce.Statement.{statement}
 use Prim.Native.Nat.{_-_}
 use Rattle.two_adic_solver.proofs.FixedLaws.{RowsReduced, reduced-start, reduced-step, reduced-done}

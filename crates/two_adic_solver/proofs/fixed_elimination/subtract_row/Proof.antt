@@ -1,3 +1,4 @@
+-- The loop: from `column` up to k the target row is less q times the source row, and all other entries are as they were; the measure is 4 - k.
 use Rattle.two_adic_solver.proofs.fixed_elimination.subtract_row.Statement.{statement}
 use Prim.Native.Nat.{_-_}
 use Rattle.two_adic_solver.proofs.FixedLaws.{RowLess, less-start, less-step, less-done}

@@ -1,3 +1,4 @@
+-- The loop: `known` is the sum, modulo 2^64, of entry times value over the columns behind `column` and before k; `mod_sub` cuts to the width.
 use Rattle.two_adic_solver.proofs.fixed_substitution.rest_of.Statement.{statement}
 use Prim.Native.Nat.{_-_}
 use Rattle.two_adic_solver.proofs.FixedLaws.{Known, known-start, known-step, known-rest}

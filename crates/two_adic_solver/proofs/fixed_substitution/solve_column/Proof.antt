@@ -1,3 +1,4 @@
+-- An entry of the matrix is one of its rows one behind the other, so the bare solver's cases apply: 2^twos does not divide the rest, or the value is put in.
 use Rattle.two_adic_solver.proofs.fixed_substitution.solve_column.Statement.{statement}
 use mathlib.Core.Path.{sym, ap, _∙_}
 use Prim.Native.Nat.{ℕ, _-_, _/_, _^_, _<_}

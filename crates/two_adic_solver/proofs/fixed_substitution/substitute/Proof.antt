@@ -1,3 +1,4 @@
+-- The loop keeps, of the rows one behind the other, what the bare solver's keeps: the columns from `column` on divide and have their values.
 use Rattle.two_adic_solver.proofs.fixed_substitution.substitute.Statement.{statement}
 use mathlib.Core.Path.{subst}
 use Prim.Native.Nat.{_-_, _<_}

@@ -1,3 +1,4 @@
+-- The loop: `row` and `least` are the lowest of the first i rows, and `at` is the place of row i's entry in the column.
 use Rattle.two_adic_solver.proofs.rows.find_pivot.Statement.{statement}
 use mathlib.Core.Path.{refl, ap, _∙_}
 use Prim.Native.Nat.{ℕ, _<_}

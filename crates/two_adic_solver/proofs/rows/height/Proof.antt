@@ -1,3 +1,4 @@
+-- A used row has the width. Else the zeros at the end of 64 bits, cut at the width, are the twos cut at the width, below it or from it on.
 use borrow.Author.Needs.{needs}
 use Rattle.two_adic_solver.proofs.RowLaws.{height-low, height-high}
 use Rattle.two_adic_solver.proofs.rows.height.Statement.{statement}

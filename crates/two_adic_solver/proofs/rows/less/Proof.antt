@@ -1,3 +1,4 @@
+-- The mask of a width to 64 is 2^bitwidth - 1, as `less_multiple` asks; the rest is its contract.
 use borrow.Author.Needs.{needs}
 use Rattle.two_adic_solver.proofs.RowLaws.{mask-eq}
 use Rattle.two_adic_solver.proofs.rows.less.Statement.{statement}

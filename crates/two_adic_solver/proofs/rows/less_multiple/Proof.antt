@@ -1,3 +1,4 @@
+-- Product and difference are taken modulo 2^64, which 2^bitwidth divides, so that the mask gives the difference modulo 2^bitwidth (`less-masked`).
 use borrow.Author.Needs.{needs}
 use mathlib.Core.Path.{ap, _∙_}
 use lib.Bits.{bitAnd}

@@ -1,3 +1,4 @@
+-- The test of the heights is the contract's: the height here where it is lower, else the least so far.
 use Rattle.two_adic_solver.proofs.rows.lower_height.Statement.{statement}
 use borrow.Author.Tests.{lt-ltb, le-ltb}
 use Rattle.two_adic_solver.proofs.rows.lower_height.Tie as tie

@@ -1,3 +1,4 @@
+-- The product modulo 2^64, masked to bitwidth - twos bits, is the product modulo that power of two.
 use borrow.Author.Needs.{needs}
 use mathlib.Core.Path.{ap₂, _∙_}
 use native.Mathlib.Omega.{arith}

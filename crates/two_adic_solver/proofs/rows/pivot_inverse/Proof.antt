@@ -1,3 +1,4 @@
+-- The number is odd and the width 1 to 64, so that `mod_inverse_odd` does not refuse, and its number is the inverse.
 use borrow.Author.Needs.{needs}
 use native.Mathlib.Omega.{arith}
 use Prim.Native.Nat.{_-_}

@@ -1,3 +1,4 @@
+-- The loop: the first i numbers are reduced, by the mask of the width, and the others as they were; the measure is what is left.
 use Rattle.two_adic_solver.proofs.rows.reduce.Statement.{statement}
 use mathlib.Core.Path.{ap, _∙_}
 use lib.Bits.{bitAnd}

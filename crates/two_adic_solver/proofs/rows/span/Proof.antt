@@ -1,3 +1,4 @@
+-- The loop comes down: all numbers from n on are 0. So it is at the first return, and at the end, where n is 0.
 use borrow.Author.Needs.{needs}
 use Prim.Native.Nat.{ℕ, _≤_, zero-le}
 use mathlib.Core.Path.{_≡_}

@@ -1,3 +1,4 @@
+-- The lent part goes from the start of the row in front to the end of the other; `subtracted-part` takes the promise to the whole matrix in both orders.
 use borrow.Author.Needs.{needs}
 use native.Mathlib.Omega.{arith}
 use Prim.Native.Nat.{_+_, _-_, _≤_, _<_}

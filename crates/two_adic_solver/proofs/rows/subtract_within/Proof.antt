@@ -1,3 +1,4 @@
+-- The loop: the first k numbers of the target are done, all others as they were; the source's number k is never among those done.
 use Rattle.two_adic_solver.proofs.rows.subtract_within.Statement.{statement}
 use Rattle.two_adic_solver.proofs.RowLaws.{mask-eq}
 use native.Mathlib.Omega.{arith}

@@ -1,3 +1,4 @@
+-- The three parts of success in order: a column without a pivot, an unused row with a right side that is not 0, then what back-substitution says.
 use borrow.Author.Needs.{needs}
 use mathlib.Core.Path.{sym, _∙_}
 use borrow.Author.Tests.{not-true, not-false}

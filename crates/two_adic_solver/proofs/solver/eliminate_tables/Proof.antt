@@ -1,3 +1,4 @@
+-- Both tables reduced, with no row marked, show the system before its first column; `eliminate` takes them to the last (`eliminated-told`).
 use borrow.Author.Needs.{needs}
 use native.Mathlib.Omega.{arith}
 use mathlib.Core.Path.{_≡_, sym, ap, _∙_}

@@ -1,3 +1,5 @@
+-- Each return names the first cause, by the tests that were passed before it: 3, 8 or 9. After the last test the system fits, and `fitting-call` reads
+-- number and tables off what `solve_fitting` promises.
 use borrow.Author.Needs.{needs}
 use mathlib.Core.Path.{_≡_, sym, ap, ap₂, _∙_}
 use Prim.Native.Nat.{_*_, _≤_, _<_}

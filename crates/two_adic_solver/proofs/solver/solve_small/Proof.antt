@@ -1,3 +1,4 @@
+-- 1,024 marks, none of them set, and as many pivots are enough for the rows and columns that are let in; the promise is `solve_with`'s.
 use borrow.Author.Needs.{needs}
 use native.Mathlib.Omega.{arith}
 use Rattle.two_adic_solver.proofs.SolverLaws.{unmarked}

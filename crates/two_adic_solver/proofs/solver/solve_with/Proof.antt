@@ -1,3 +1,4 @@
+-- After the elimination the tables show a state with every column done, as `conclude` asks. Its yes is 0 with the values, its no 10 with a cleared answer.
 use borrow.Author.Needs.{needs}
 use native.Mathlib.Omega.{arith}
 use mathlib.Core.Path.{_≡_, sym, ap, _∙_}

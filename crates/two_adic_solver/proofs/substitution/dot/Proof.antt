@@ -1,3 +1,4 @@
+-- The loop: `total` is the sum of the first k products, modulo 2^64; the measure is what is left of the row.
 use Rattle.two_adic_solver.proofs.substitution.dot.Statement.{statement}
 use Rattle.two_adic_solver.proofs.SubstitutionLaws.{sum-none, sum-whole}
 use Prim.Native.Nat.{zero-le}

@@ -1,3 +1,4 @@
+-- The loop: the first c columns have a pivot row. One that has none closes the early return (`every-fails`), all of them the end (`every-all`).
 use Rattle.two_adic_solver.proofs.substitution.pivots_found.Statement.{statement}
 use mathlib.Core.Path.{_≡_, sym}
 use native.Mathlib.Omega.{arith}

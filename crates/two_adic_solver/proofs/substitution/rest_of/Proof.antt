@@ -1,3 +1,4 @@
+-- The pivot row behind the column is lent with the values behind it; their product, modulo 2^64, is taken off the right side and cut to the width.
 use borrow.Author.Needs.{needs}
 use Prim.Native.Nat.{_+_, _*_, _-_, _≤_}
 use lib.ListN.{length}

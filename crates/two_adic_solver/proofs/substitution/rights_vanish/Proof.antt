@@ -1,3 +1,4 @@
+-- The loop: the first i rows are used or have the right side 0. One that does not vanish closes the early return, all of them the end.
 use Rattle.two_adic_solver.proofs.substitution.rights_vanish.Statement.{statement}
 use borrow.Author.Tests.{not-true, not-false}
 use mathlib.Core.Path.{_≡_, sym, _∙_}

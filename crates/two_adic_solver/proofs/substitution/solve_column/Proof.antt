@@ -1,3 +1,4 @@
+-- Two returns, by the low bits of what is left: 2^twos does not divide it, and the column fails, or it does, and the quotient times the inverse is put in.
 use borrow.Author.Needs.{needs}
 use native.Mathlib.Omega.{arith}
 use mathlib.Core.Path.{sym, ap, _∙_}

@@ -1,3 +1,5 @@
+-- The loop, last column first: the columns from `column` on divide, and back-substitution from here on ends in the values of the whole; the measure is
+-- `column`. A column that does not divide closes the early return.
 use Rattle.two_adic_solver.proofs.substitution.substitute.Statement.{statement}
 use borrow.Author.Tests.{not-true, not-false}
 use Prim.Native.Nat.{_-_, _<_}

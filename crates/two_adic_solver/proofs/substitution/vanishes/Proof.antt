@@ -1,3 +1,4 @@
+-- A used row passes by itself; of an unused one the test of the right side is the answer.
 use borrow.Author.Needs.{needs}
 use Rattle.two_adic_solver.proofs.substitution.vanishes.Statement.{statement}
 use Rattle.two_adic_solver.proofs.substitution.vanishes.Tie as tie
