@@ -16,7 +16,7 @@ use Rattle.meaning.specs.Replies.{Reply, accepted, refused, told, between}
 use Rattle.meaning.specs.Settings.{cube, settingsNumber, callNumber, first}
 use Rattle.meaning.specs.Recovery.{accepts, answer}
 use Rattle.meaning.specs.Calls.{reply, left, inOutNumber, recoveryNumber, recoveryLeft}
-use Rattle.theory.specs.Settings.{passes}
+use Rattle.theory.specs.Settings.{passes, first-zero}
 use Rattle.theory.specs.AcceptedCalls.{width-high}
 use Rattle.answers.specs.Said.{code}
 use Rattle.answers.specs.Laws.{number-reply, reply-code, first-code}
@@ -30,11 +30,6 @@ use Rattle.bench_file.specs.StepLaws.{fed-append}
 use Rattle.bench_file.specs.HeadLines.{eq-or-ne}
 use Rattle.bench_file.specs.declared.reader.Reader.{Reader}
 use Rattle.bench.specs.Answers.{Led, asked, textFor, recoveredText, numberOf, textOf}
-
--- both of two numbers are 0 where the first that is not is 0
-pub none-first : (n k : ℕ) → first n k ≡ 0 → (n ≡ 0) × (k ≡ 0)
-none-first zero k e = (refl, e)
-none-first (suc n) k e = absurd (suc-ne-zero n e)
 
 -- the number in a text: 0, or not
 pub text-for-zero : (n : ℕ) (ds cs : List ℕ) → n ≡ 0 → textFor n ds cs ≡ acceptedText ds cs
@@ -105,11 +100,11 @@ module _ (w total d : ℕ) (support : List ℕ) where
   module _ (pass : headNumber h ≡ 0) where
     pub head-settings : settingsNumber true total (between 2 64 w) support ds ≡ 0
     unfolding headNumber
-    head-settings = none-first _ _ pass .0
+    head-settings = first-zero _ _ pass .0
 
     pub head-cells : cells ds ≤ 4096
     unfolding headNumber
-    head-cells = go (ltb 4096 (cells ds)) refl (none-first (settingsNumber true total (between 2 64 w) support ds) _ pass .1)
+    head-cells = go (ltb 4096 (cells ds)) refl (first-zero (settingsNumber true total (between 2 64 w) support ds) _ pass .1)
       where
         go : (b : Bool) → ltb 4096 (cells ds) ≡ b → _≡_ {A = ℕ} (cond b 8 0) 0 → cells ds ≤ 4096
         go true e q = absurd (suc-ne-zero 7 q)

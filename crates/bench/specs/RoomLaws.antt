@@ -17,7 +17,8 @@ use Rattle.theory.specs.Tables.{length-tabulate}
 use Rattle.bench_file.specs.Layout.{Head, Content, ill-head, ill-values, whole, degreesOf, headNumber, benchNumber, nonZeros, acceptedText, refusedText, benchText}
 use Rattle.bench_file.specs.PrintLaws.{length-accepted, length-refused, non-zeros-few}
 use Rattle.bench_file.specs.HeadLines.{lt-or-ge}
-use Rattle.bench.specs.AnswerLaws.{none-first, head-settings, head-cells}
+use Rattle.theory.specs.Settings.{first-zero}
+use Rattle.bench.specs.AnswerLaws.{head-settings, head-cells}
 
 -- no degree is 0 where strict settings pass
 no-zero-degree : (total : ℕ) (fits : Bool) (support ds : List ℕ) → settingsNumber true total fits support ds ≡ 0 → some (eqb 0) ds ≡ false
@@ -71,7 +72,7 @@ few-variables k d e h = ⊎-elim many (λ (l : k ≤ 12). l) (lt-or-ge 12 k)
 -- an answer is accepted only where the settings pass
 head-passes : (h : Head) (vs : List ℕ) → benchNumber (whole h vs) ≡ 0 → headNumber h ≡ 0
 unfolding benchNumber
-head-passes h vs e = none-first (headNumber h) _ e .0
+head-passes h vs e = first-zero (headNumber h) _ e .0
 
 length-answer : (w : ℕ) (ds v : List ℕ) → length (answer w ds v) ≡ cells ds
 unfolding answer

@@ -3,7 +3,7 @@
 use mathlib.Core.Path.{_≡_, refl, sym, _∙_, ap, ap₂}
 use mathlib.Core.Bool.{Bool, true, false, _&&_, cond}
 use mathlib.Core.List.{List}
-use Prim.Native.Nat.{ℕ, zero, suc, _*_, _≤_, _^_}
+use Prim.Native.Nat.{ℕ, suc, _*_, _≤_, _^_}
 use native.Mathlib.Nat.{suc-ne-zero}
 use lib.Dec.{ltb, eqb}
 use lib.ListN.{length, take, replicate, length-replicate}
@@ -16,7 +16,7 @@ use Rattle.meaning.specs.Recovery.{accepts, answer}
 use Rattle.meaning.specs.Replies.{Reply, refused, between}
 use Rattle.meaning.specs.Settings.{settingsNumber, smallNumber, first}
 use Rattle.meaning.specs.Calls.{reply, left, inOutNumber, recoveryNumber, recoveryLeft, valueReply}
-use Rattle.theory.specs.Settings.{passes}
+use Rattle.theory.specs.Settings.{passes, first-zero}
 use Rattle.answers.specs.declared.Refusal.{Refusal}
 use Rattle.answers.specs.declared.Number.{Number}
 use Rattle.answers.specs.Said.{code, said}
@@ -24,10 +24,6 @@ use Rattle.answers.specs.Laws.{Settled, number-accepted, value-accepted, number
 use Rattle.byte_calls.specs.Bytes.{decoded, encoded}
 use Rattle.byte_calls.specs.ByteLaws.{length-decoded}
 use Rattle.byte_calls.specs.Calls.{holds, boxNumber, recoverCause, recoverNumber, recoverLeft, bytesValueReply}
-
-none-first : (n k : ℕ) → first n k ≡ 0 → (n ≡ 0) × (k ≡ 0)
-none-first zero k e = (refl, e)
-none-first (suc n) k e = absurd (suc-ne-zero n e)
 
 is-true : (b : Bool) (n : ℕ) → _≡_ {A = ℕ} (cond b 0 (suc n)) 0 → b ≡ true
 is-true true n e = refl
@@ -73,8 +69,8 @@ module _ (strict : Bool) (count total w : ℕ) (support ds : List ℕ) {answer :
       let told = sym (ap said e) ∙ says in
       let none = number-accepted (boxNumber strict count total w support ds) (cells ds) told in
       let counted = value-accepted (boxNumber strict count total w support ds) (cells ds) told in
-      let causes = none-first (cond (holds support count) 0 9) (smallNumber strict total (between 2 64 w) (decoded support) ds) none in
-      let settings = none-first (settingsNumber strict total (between 2 64 w) (decoded support) ds) (cond (ltb 4096 (cells ds)) 8 0) (causes .1) in
+      let causes = first-zero (cond (holds support count) 0 9) (smallNumber strict total (between 2 64 w) (decoded support) ds) none in
+      let settings = first-zero (settingsNumber strict total (between 2 64 w) (decoded support) ds) (cond (ltb 4096 (cells ds)) 8 0) (causes .1) in
       let bytes : length support ≡ count * 8 = eqb-true (length support) (count * 8) (is-true (holds support count) 8 (causes .0)) in
       let few = passes strict total (between 2 64 w) (decoded support) ds (settings .0) .short in
       record {

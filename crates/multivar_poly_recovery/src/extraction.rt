@@ -218,17 +218,6 @@ fn extract_box(
     true
 }
 
-// Every number is set to 0.
-fn clear(table: &mut [u64])
-    ensures { λ r. ⌜ now (table .exit) ≡ tabulate (length (now (table .entry))) (λ n. 0) ⌝ }
-{
-    let mut i = 0;
-    while i < table.len() {
-        table[i] = 0;
-        i += 1;
-    }
-}
-
 // The coefficients from Newton's differences, in place. `table` has a difference for each cell of the box of `degrees`, first variable fastest, read
 // modulo 2^bitwidth, for widths to 64. `inverses` is math_utils' table of the inverses of the odd parts of the factorials. The result says whether
 // every difference is divisible as it has to be; the table then has the coefficients, and else zeros.
@@ -262,6 +251,6 @@ pub(crate) fn extract(
     ) {
         return true;
     }
-    clear(table);
+    tables::clear(table);
     false
 }

@@ -2,16 +2,16 @@
 use mathlib.Core.Path.{_≡_, refl}
 use mathlib.Core.Bool.{Bool, true, false, _&&_, cond, false≢true}
 use mathlib.Core.List.{List}
-use Prim.Native.Nat.{ℕ, zero, suc, _≤_}
+use Prim.Native.Nat.{ℕ, _≤_}
 use native.Mathlib.Nat.{suc-ne-zero}
 use borrow.Author.Tests.{leb-true, eqb-true}
 use lib.Dec.{leb, eqb}
 use lib.ListN.{length}
 use Rattle.meaning.specs.Boxes.{cells}
 use Rattle.meaning.specs.Replies.{between}
-use Rattle.meaning.specs.Settings.{settingsNumber, callNumber, first}
+use Rattle.meaning.specs.Settings.{settingsNumber, callNumber}
 use Rattle.meaning.specs.Calls.{inOutNumber}
-use Rattle.theory.specs.Settings.{Passes, passes}
+use Rattle.theory.specs.Settings.{Passes, passes, first-zero}
 
 both-true : (a b : Bool) → a && b ≡ true → (a ≡ true) × (b ≡ true)
 both-true true b e = (refl, e)
@@ -34,14 +34,10 @@ pub ready : (strict : Bool) (total w : ℕ) (support ds given out : List ℕ) �
     → Ready strict total w support ds given out
 unfolding callNumber
 ready strict total w support ds given out e =
-    let parts = none-first (settingsNumber strict total (between 2 64 w) support ds) _ e in
+    let parts = first-zero (settingsNumber strict total (between 2 64 w) support ds) _ e in
     let exact = both-true (eqb (length given) (cells ds)) (eqb (length out) (cells ds)) (is-exact _ (parts .1)) in
     record { settings = parts .0; given-length = eqb-true _ _ (exact .0); out-length = eqb-true _ _ (exact .1) }
   where
-    none-first : (n k : ℕ) → first n k ≡ 0 → (n ≡ 0) × (k ≡ 0)
-    none-first zero k p = (refl, p)
-    none-first (suc n) k p = absurd (suc-ne-zero n p)
-
     is-exact : (b : Bool) → _≡_ {A = ℕ} (cond b 0 9) 0 → b ≡ true
     is-exact true p = refl
     is-exact false p = absurd (suc-ne-zero 8 p)

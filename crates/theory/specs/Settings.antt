@@ -104,14 +104,15 @@ support-passes total fits low support e =
     pos-of-ne : (n : ℕ) → (n ≡ 0 → ⊥) → 0 < n
     pos-of-ne n h = omega arith
 
+-- no cause is first of two where neither is one
+pub first-zero : (a b : ℕ) → first a b ≡ 0 → (a ≡ 0) × (b ≡ 0)
+first-zero zero b e = (refl, e)
+first-zero (suc a) b e = absurd (suc-ne-zero a e)
+
 -- settings with no cause to turn them down
 module _ (strict : Bool) (total : ℕ) (fits : Bool) (support ds : List ℕ) (pass : settingsNumber strict total fits support ds ≡ 0) where
-  none-first : (n k : ℕ) → first n k ≡ 0 → (n ≡ 0) × (k ≡ 0)
-  none-first zero k e = (refl, e)
-  none-first (suc n) k e = absurd (suc-ne-zero n e)
-
   causes : (supportNumber total fits (strict && some (eqb 0) ds) support ≡ 0) × _≡_ {A = ℕ} (cond (ltb 65536 (cells ds)) 8 0) 0
-  causes = none-first _ _ (sym (settings-eq-support strict total fits support ds) ∙ pass)
+  causes = first-zero _ _ (sym (settings-eq-support strict total fits support ds) ∙ pass)
 
   pub passes : Passes total fits support
   passes = support-passes total fits (strict && some (eqb 0) ds) support (causes .0)

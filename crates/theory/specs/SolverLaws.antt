@@ -1,7 +1,7 @@
 -- The bare solver: an accepted answer satisfies every row modulo 2^w, in the words of the lent tables.
 use mathlib.Core.Path.{_≡_, refl, ap, _∙_}
 use mathlib.Core.Bool.{Bool, true, false, cond}
-use Prim.Native.Nat.{ℕ, zero, suc, _+_, _*_, _%_, _^_, _<_}
+use Prim.Native.Nat.{ℕ, suc, _+_, _*_, _%_, _^_, _<_}
 use mathlib.Core.List.{List}
 use native.Mathlib.Nat.{mod-lt, le-refl, suc-ne-zero}
 use lib.Dec.{T}
@@ -9,7 +9,7 @@ use lib.Pow.{pow-pos}
 use borrow.Author.Tests.{lt-ltb, le-ltb}
 use Rattle.meaning.specs.Tables.{tabulate, at}
 use Rattle.meaning.specs.Sums.{sum}
-use Rattle.meaning.specs.Settings.{first}
+use Rattle.theory.specs.Settings.{first-zero}
 use Rattle.meaning.specs.Calls.{left}
 use Rattle.meaning.specs.Elimination.{system, substituted, solverRows, solverCause, solverState, solverSucceeds, solverNumber, solverAnswer}
 use Rattle.theory.specs.Congruence.{Cong, cong-of-eq, cong-sym, cong-trans, cong-mul-right, mod-cong}
@@ -17,11 +17,6 @@ use Rattle.theory.specs.Sums.{sum-eq, sum-cong}
 use Rattle.theory.specs.Tables.{at-tabulate}
 use Rattle.theory.specs.LinearSystems.{Solves}
 use Rattle.theory.specs.BackSubstitution.{substituted-solves}
-
--- the first number that is not 0 is 0 only where both are
-pub first-zero : (a b : ℕ) → first a b ≡ 0 → (a ≡ 0) × (b ≡ 0)
-first-zero zero b e = (refl, e)
-first-zero (suc a) b e = absurd (suc-ne-zero a e)
 
 -- a test that answers 0 where it passes, and else a number above 0
 pub passed : (b : Bool) (n : ℕ) → cond b 0 (suc n) ≡ 0 → b ≡ true

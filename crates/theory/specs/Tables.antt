@@ -36,6 +36,13 @@ eq-tabulate t n f e h =
 pub tabulate-cong : (n : ℕ) (f g : ℕ → ℕ) → ((i : ℕ) → i < n → f i ≡ g i) → tabulate n f ≡ tabulate n g
 tabulate-cong n f g h = eq-tabulate (tabulate n f) n g (length-tabulate n f) (λ i p. at-tabulate n f i p ∙ h i p)
 
+-- a table of zeros has 0 everywhere
+pub at-tabulate-zero : (n i : ℕ) → at (tabulate n (λ k. 0)) i ≡ 0
+unfolding tabulate
+at-tabulate-zero zero i = refl
+at-tabulate-zero (suc n) zero = refl
+at-tabulate-zero (suc n) (suc i) = at-tabulate-zero n i
+
 -- a list of zeros has zeros everywhere, past its end too
 pub at-zeros : (n i : ℕ) → at (replicate n 0) i ≡ 0
 at-zeros zero i = refl

@@ -3,7 +3,7 @@ use mathlib.Core.Path.{_≡_, refl, sym, ap, ap₂, subst, _∙_}
 use mathlib.Core.Bool.{Bool, true, false, cond}
 use mathlib.Core.List.{List}
 use mathlib.Core.Logic.{⊎-elim, _⊎_}
-use Prim.Native.Nat.{ℕ, zero, suc, _+_, _*_, _-_, _/_, _%_, _^_, _≤_, _<_, min}
+use Prim.Native.Nat.{ℕ, suc, _+_, _*_, _-_, _/_, _%_, _^_, _≤_, _<_, min}
 use native.Mathlib.Nat.{min-eq-left, suc-mul, mul-le-mul-right, le-refl, le-of-suc-le-suc, eq-or-lt-of-le}
 use native.Mathlib.Numerals.{add-one}
 use native.Mathlib.Omega.{arith}
@@ -23,7 +23,7 @@ use Rattle.theory.specs.Congruence.{cong-add, mod-cong, cong-of-eq, minus-cong}
 use Rattle.theory.specs.Words.{cong-of-pow}
 use Rattle.theory.specs.Sums.{sum-last, sum-eq}
 use Rattle.theory.specs.Every.{every-iff}
-use Rattle.theory.specs.Tables.{length-tabulate}
+use Rattle.theory.specs.Tables.{length-tabulate, at-tabulate-zero}
 use Rattle.theory.specs.BackSubstitution.{put, backward-eq, backward-step, dividesRest-eq, dividesRest-backward}
 use Rattle.theory.specs.Parts.{part, length-part, at-part}
 use Rattle.theory.specs.ShownStates.{Shows}
@@ -165,17 +165,11 @@ pub record Substituting (w cols : ℕ) (piv mat rhs x : List ℕ) (c : ℕ) : Ty
   pub so-far : (s : State) → Shows (length rhs) cols s mat rhs → ((j : ℕ) → j < cols → at piv j ≡ s .pivot j) → Values w cols s x c
 
 module _ (w cols : ℕ) (s : State) where
-  at-nothing : (n : ℕ) (j : ℕ) → at (tabulate n (λ k. 0)) j ≡ 0
-  unfolding tabulate
-  at-nothing zero j = refl
-  at-nothing (suc n) zero = refl
-  at-nothing (suc n) (suc j) = at-nothing n j
-
   values-start : (x : List ℕ) (n : ℕ) → x ≡ tabulate n (λ k. 0) → Values w cols s x cols
   unfolding substituted
   values-start x n e =
       record {
-        agree = λ j. backward-eq w cols s cols (at x) (λ k. 0) (λ k. ap (λ (y : List ℕ). at y k) e ∙ at-nothing n k) j;
+        agree = λ j. backward-eq w cols s cols (at x) (λ k. 0) (λ k. ap (λ (y : List ℕ). at y k) e ∙ at-tabulate-zero n k) j;
         passed = λ j l k. absurd (omega arith);
       }
 

@@ -2,7 +2,7 @@
 use mathlib.Core.Path.{_≡_, refl, sym, ap, ap₂, _∙_}
 use mathlib.Core.Bool.{Bool, true, false, cond}
 use mathlib.Core.List.{List, []}
-use Prim.Native.Nat.{ℕ, zero, suc, _+_, _*_, _-_, _%_, _≤_, _<_, max, zero-le}
+use Prim.Native.Nat.{ℕ, suc, _+_, _*_, _-_, _%_, _≤_, _<_, max, zero-le}
 use native.Mathlib.Nat.{zero-mul, mul-le-mul-right, not-suc-le-zero}
 use native.Mathlib.Numerals.{add-one}
 use native.Mathlib.Decide.{decLe}
@@ -17,7 +17,7 @@ use Rattle.meaning.specs.Values.{bound}
 use Rattle.meaning.specs.Leaves.{largest}
 use Rattle.meaning.specs.Elimination.{joined}
 use Rattle.meaning.specs.Fit.{total, columns, valueOf, fitBox, degreeUsed}
-use Rattle.theory.specs.Tables.{length-tabulate, eq-tabulate}
+use Rattle.theory.specs.Tables.{length-tabulate, eq-tabulate, at-tabulate-zero}
 use Rattle.theory.specs.Boxes.{cell-lt, cell-digits, digits-cell, digits-within, length-within}
 use Rattle.theory.specs.Columns.{in-columns-iff}
 use Rattle.theory.specs.Largest.{largest-last}
@@ -51,13 +51,6 @@ pub record Answered (w : ℕ) (ds : List ℕ) (most : ℕ) (values exponents out
   pub others : (n : ℕ) → ((i : ℕ) → i < c → cell ds (listOf ds most i) ≡ n → ⊥) → at out n ≡ 0
   pub high : highest ≡ largest c (degreeAt w ds most (at values))
 
--- a table of zeros has 0 everywhere
-at-none : (n i : ℕ) → at (tabulate n (λ k. 0)) i ≡ 0
-unfolding tabulate
-at-none zero i = refl
-at-none (suc n) zero = refl
-at-none (suc n) (suc i) = at-none n i
-
 module _ {w : ℕ} {ds : List ℕ} {most : ℕ} {values exponents : List ℕ} where
   pub answered-start : {out : List ℕ} (n : ℕ) → Lent w ds most values exponents → out ≡ tabulate n (λ i. 0) → n ≡ cells ds
       → Answered w ds most values exponents out 0 0 0
@@ -69,7 +62,7 @@ module _ {w : ℕ} {ds : List ℕ} {most : ℕ} {values exponents : List ℕ} wh
         few = zero-le;
         place = sym (zero-mul (length ds));
         stored = λ i h. absurd (not-suc-le-zero h);
-        others = λ i h. ap (λ (t : List ℕ). at t i) e ∙ at-none n i;
+        others = λ i h. ap (λ (t : List ℕ). at t i) e ∙ at-tabulate-zero n i;
         high = refl;
       }
 

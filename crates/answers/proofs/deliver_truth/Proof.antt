@@ -2,35 +2,25 @@
 use borrow.Author.Needs.{needs}
 use Rattle.answers.proofs.deliver_truth.Statement.{statement}
 use Rattle.answers.proofs.deliver_truth.Tie as tie
-use Rattle.answers.proofs.deliver_truth.Reads as reads
-use Rattle.answers.proofs.deliver_truth.Lts as lts
-use Rattle.answers.proofs.refusal_code.Reads as refusal-code-reads
 
--- src/lib.rt:105:13
 enum-told : tie.Need-enum-told
 enum-told c = search needs
 
--- src/lib.rt:109:13
 enum-told-2 : tie.Need-enum-told-2
 enum-told-2 c = search needs
 
--- src/lib.rt:112:24
 enum-known-answer : tie.Need-enum-known-answer
 enum-known-answer c = search needs
 
--- src/lib.rt:114:13
 refusal-code-requires : tie.Need-refusal-code-requires
 refusal-code-requires c κs = search needs
 
--- src/lib.rt:100:1
 returns : tie.Need-returns
 returns c = search needs
 
--- src/lib.rt:100:1
 returns-2 : tie.Need-returns-2
 returns-2 c = search needs
 
--- src/lib.rt:100:1
 returns-3 : tie.Need-returns-3
 returns-3 c = cc
 

@@ -7,22 +7,16 @@ use lib.Pow.{pow-pos}
 use Rattle.theory.specs.Words.{shifted-one}
 use Rattle.arith.proofs.bitmask.Statement.{statement}
 use Rattle.arith.proofs.bitmask.Tie as tie
-use Rattle.arith.proofs.bitmask.Reads as reads
-use Rattle.arith.proofs.bitmask.Lts as lts
 
--- src/lib.rt:38:9
 returns : tie.Need-returns
 returns c = ap (λ (k : ℕ). 2 ^ k - 1) (sym (min-eq-right (c .if1 .taken)))
 
--- src/lib.rt:40:6
 shl-result : tie.Need-shl-result
 shl-result c = search needs
 
--- src/lib.rt:40:5
 sub-result : tie.Need-sub-result
 sub-result c = rw (shifted-one (c .before .args .width) (c .if1 .left)) (pow-pos (c .before .args .width))
 
--- src/lib.rt:34:1
 returns-2 : tie.Need-returns-2
 returns-2 c =
     rw (shifted-one (c .before .args .width) (c .if1 .left))

@@ -3,14 +3,10 @@ use borrow.Author.Needs.{needs}
 use Rattle.theory.specs.Words.{product-fits}
 use Rattle.arith.proofs.half_product.Statement.{statement}
 use Rattle.arith.proofs.half_product.Tie as tie
-use Rattle.arith.proofs.half_product.Reads as reads
-use Rattle.arith.proofs.half_product.Lts as lts
 
--- src/lib.rt:11:5
 mul-result : tie.Need-mul-result
 mul-result c = record { fits = product-fits 32 (c .pre .0) (c .pre .1) }
 
--- src/lib.rt:7:1
 returns : tie.Need-returns
 returns c = search needs
 

@@ -5,20 +5,13 @@ use lib.Bits.{bitAnd}
 use Rattle.theory.specs.Words.{masked}
 use Rattle.arith.proofs.mod_add.Statement.{statement}
 use Rattle.arith.proofs.mod_add.Tie as tie
-use Rattle.arith.proofs.mod_add.Reads as reads
-use Rattle.arith.proofs.mod_add.Lts as lts
-use Rattle.arith.proofs.bitmask.Reads as bitmask-reads
-use Rattle.std.proofs.num.wrapping_add_u64.Reads as wrapping-add-u64-reads
 
--- src/lib.rt:47:5
 wrapping-add-u64-requires : tie.Need-wrapping-add-u64-requires
 wrapping-add-u64-requires c κs = search needs
 
--- src/lib.rt:47:40
 bitmask-requires : tie.Need-bitmask-requires
 bitmask-requires c κs = search needs
 
--- src/lib.rt:44:1
 returns : tie.Need-returns
 returns c = ap₂ bitAnd (c .before .wrapping-add-u64 .ensures) (c .bitmask .ensures) ∙ masked _ (c .before .before .args .width)
 

@@ -5,20 +5,13 @@ use lib.Bits.{bitAnd}
 use Rattle.theory.specs.Words.{masked}
 use Rattle.arith.proofs.mod_mul.Statement.{statement}
 use Rattle.arith.proofs.mod_mul.Tie as tie
-use Rattle.arith.proofs.mod_mul.Reads as reads
-use Rattle.arith.proofs.mod_mul.Lts as lts
-use Rattle.arith.proofs.bitmask.Reads as bitmask-reads
-use Rattle.arith.proofs.wrapping_mul.Reads as wrapping-mul-reads
 
--- src/lib.rt:61:5
 wrapping-mul-requires : tie.Need-wrapping-mul-requires
 wrapping-mul-requires c κs = search needs
 
--- src/lib.rt:61:26
 bitmask-requires : tie.Need-bitmask-requires
 bitmask-requires c κs = search needs
 
--- src/lib.rt:58:1
 returns : tie.Need-returns
 returns c = ap₂ bitAnd (c .before .wrapping-mul .ensures) (c .bitmask .ensures) ∙ masked _ (c .before .before .args .width)
 

@@ -4,36 +4,25 @@ use borrow.Author.Needs.{needs}
 use Rattle.theory.specs.Words.{product-by-halves}
 use Rattle.arith.proofs.wrapping_mul.Statement.{statement}
 use Rattle.arith.proofs.wrapping_mul.Tie as tie
-use Rattle.arith.proofs.wrapping_mul.Reads as reads
-use Rattle.arith.proofs.wrapping_mul.Lts as lts
-use Rattle.arith.proofs.half_product.Reads as half-product-reads
-use Rattle.std.proofs.num.wrapping_add_u64.Reads as wrapping-add-u64-reads
 
--- src/lib.rt:22:44
 half-product-requires : tie.Need-half-product-requires
 half-product-requires c κs = search needs
 
--- src/lib.rt:22:73
 half-product-requires-2 : tie.Need-half-product-requires-2
 half-product-requires-2 c κs = search needs
 
--- src/lib.rt:22:9
 wrapping-add-u64-requires : tie.Need-wrapping-add-u64-requires
 wrapping-add-u64-requires c κs = search needs
 
--- src/lib.rt:23:32
 half-product-requires-3 : tie.Need-half-product-requires-3
 half-product-requires-3 c κs = search needs
 
--- src/lib.rt:23:60
 mul-wrapping-add-u64 : tie.Need-mul-wrapping-add-u64
 mul-wrapping-add-u64 c = search needs
 
--- src/lib.rt:23:5
 wrapping-add-u64-requires-2 : tie.Need-wrapping-add-u64-requires-2
 wrapping-add-u64-requires-2 c κs = search needs
 
--- src/lib.rt:15:1
 returns : tie.Need-returns
 returns c =
     let k = c .before .before .before .before .before .args in

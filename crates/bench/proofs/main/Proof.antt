@@ -18,51 +18,39 @@ inside-of c =
     text-inside (c .before .size .given .0 .0) (room .result) (a .answer-input .last .0) (sym (room .ensures))
     (subst (λ (e : Ending). Answered e (room .result) (a .answer-input .last .0)) (c .before .size .given .1) (a .answer-input .ensures))
 
--- src/main.rt:92:19
 text-room-requires : tie.Need-text-room-requires
 text-room-requires c κs = search needs
 
--- src/main.rt:93:24
 slice-aggregate-answer-input : tie.Need-slice-aggregate-answer-input
 slice-aggregate-answer-input c = search needs
 
--- src/main.rt:93:11
 answer-input-requires : tie.Need-answer-input-requires
 answer-input-requires c κs = search needs
 
--- src/main.rt:94:22
 enum-known-size : tie.Need-enum-known-size
 enum-known-size c = search needs
 
--- src/main.rt:94:37
 array-share-prefix-out : tie.Need-array-share-prefix-out
 array-share-prefix-out c = inside-of c
 
--- src/main.rt:94:37
 slice-aggregate-print : tie.Need-slice-aggregate-print
 slice-aggregate-print c = sym (length-take-le _ _ (inside-of (c .before)))
 
--- src/main.rt:94:31
 print-requires : tie.Need-print-requires
 print-requires c κs = search needs
 
--- src/main.rt:98:17
 enum-told : tie.Need-enum-told
 enum-told c = search needs
 
--- src/main.rt:98:17
 slice-aggregate-write-all : tie.Need-slice-aggregate-write-all
 slice-aggregate-write-all c = search needs
 
--- src/main.rt:96:13
 write-all-requires : tie.Need-write-all-requires
 write-all-requires c κs = search needs
 
--- src/main.rt:91:1
 returns : tie.Need-returns
 returns c = search needs
 
--- src/main.rt:91:1
 returns-2 : tie.Need-returns-2
 returns-2 c = search needs
 

@@ -3,27 +3,19 @@ use borrow.Author.Needs.{needs}
 use Rattle.theory.specs.Ranges.{between-true, between-low, between-high}
 use Rattle.math_utils.proofs.degree_cap.Statement.{statement}
 use Rattle.math_utils.proofs.degree_cap.Tie as tie
-use Rattle.math_utils.proofs.degree_cap.Reads as reads
-use Rattle.math_utils.proofs.degree_cap.Lts as lts
-use Rattle.math_utils.proofs.least_degree.Reads as least-degree-reads
 
--- src/lib.rt:58:9
 returns : tie.Need-returns
 returns c = simp (between-low 2 64 _ (c .if1 .taken))
 
--- src/lib.rt:61:9
 returns-2 : tie.Need-returns-2
 returns-2 c = simp (between-high 2 64 _ (c .if2 .taken))
 
--- src/lib.rt:63:19
 least-degree-requires : tie.Need-least-degree-requires
 least-degree-requires c κs = search needs
 
--- src/lib.rt:63:19
 cast-t6 : tie.Need-cast-t6
 cast-t6 c = search needs
 
--- src/lib.rt:54:1
 returns-3 : tie.Need-returns-3
 returns-3 c = simp (between-true 2 64 _ (c .before .before .if1 .left) (c .before .if2 .left), c .least-degree .ensures)
 

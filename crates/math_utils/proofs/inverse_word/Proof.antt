@@ -4,31 +4,22 @@ use mathlib.Core.Path.{_∙_, ap}
 use Rattle.theory.specs.Inverses.{wordStep, five-steps}
 use Rattle.math_utils.proofs.inverse_word.Statement.{statement}
 use Rattle.math_utils.proofs.inverse_word.Tie as tie
-use Rattle.math_utils.proofs.inverse_word.Reads as reads
-use Rattle.math_utils.proofs.inverse_word.Lts as lts
-use Rattle.math_utils.proofs.lift.Reads as lift-reads
 
--- src/lib.rt:95:9
 lift-requires : tie.Need-lift-requires
 lift-requires c κs = search needs
 
--- src/lib.rt:96:9
 lift-requires-2 : tie.Need-lift-requires-2
 lift-requires-2 c κs = search needs
 
--- src/lib.rt:97:9
 lift-requires-3 : tie.Need-lift-requires-3
 lift-requires-3 c κs = search needs
 
--- src/lib.rt:98:9
 lift-requires-4 : tie.Need-lift-requires-4
 lift-requires-4 c κs = search needs
 
--- src/lib.rt:99:5
 lift-requires-5 : tie.Need-lift-requires-5
 lift-requires-5 c κs = search needs
 
--- src/lib.rt:91:1
 returns : tie.Need-returns
 returns c =
     let x = c .before .before .before .before .before .args .x in

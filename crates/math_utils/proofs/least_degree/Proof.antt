@@ -7,9 +7,6 @@ use mathlib.Core.Path.{subst}
 use Rattle.theory.specs.DegreeCap.{Search, search-start, search-below, search-step, search-done}
 use native.Mathlib.Omega.{arith}
 use Rattle.math_utils.proofs.least_degree.Tie as tie
-use Rattle.math_utils.proofs.least_degree.Reads as reads
-use Rattle.math_utils.proofs.least_degree.Lts as lts
-use Rattle.math_utils.proofs.twos_in_factorial.Reads as twos-in-factorial-reads
 
 abbrev Inv-loop : tie.InvT-loop
 Inv-loop bitwidth degree₀ degree = Search bitwidth degree
@@ -17,11 +14,9 @@ Inv-loop bitwidth degree₀ degree = Search bitwidth degree
 abbrev μ-loop : tie.MeasureT-loop
 μ-loop bitwidth degree₀ degree = 2 * bitwidth - degree
 
--- src/lib.rt:47:5
 loop-holds : tie.Need-loop-holds Inv-loop μ-loop
 loop-holds c = search-start (c .args .bitwidth)
 
--- src/lib.rt:47:11
 twos-in-factorial-requires : tie.Need-twos-in-factorial-requires Inv-loop μ-loop
 twos-in-factorial-requires c κs = tt
 
@@ -29,19 +24,15 @@ twos-in-factorial-requires c κs = tt
 few : (c : tie.Then1 Inv-loop μ-loop) → twos (factorial (c .before .before .loop .degree)) < c .before .before .before .args .bitwidth
 few c = subst (_< c .before .before .before .args .bitwidth) (c .before .twos-in-factorial .ensures) (c .if1 .taken)
 
--- src/lib.rt:48:9
 add-degree : tie.Need-add-degree Inv-loop μ-loop
 add-degree c = omega (arith, search-below _ _ (c .before .before .loop .inv) (few c), c .before .before .before .pre)
 
--- src/lib.rt:47:5
 loop-less : tie.Need-loop-less Inv-loop μ-loop
 loop-less c = omega (arith, search-below _ _ (c .before .before .loop .inv) (few c))
 
--- src/lib.rt:47:5
 loop-again : tie.Need-loop-again Inv-loop μ-loop
 loop-again c = search-step _ _ (c .before .before .loop .inv) (few c)
 
--- src/lib.rt:42:1
 returns : tie.Need-returns Inv-loop μ-loop
 returns c = search-done _ _ (c .before .before .loop .inv) (subst (c .before .before .before .args .bitwidth ≤_) (c .before .twos-in-factorial .ensures) (c .if1 .left))
 

@@ -2,24 +2,16 @@
 use borrow.Author.Needs.{needs}
 use Rattle.math_utils.proofs.lift.Statement.{statement}
 use Rattle.math_utils.proofs.lift.Tie as tie
-use Rattle.math_utils.proofs.lift.Reads as reads
-use Rattle.math_utils.proofs.lift.Lts as lts
-use Rattle.arith.proofs.wrapping_mul.Reads as wrapping-mul-reads
-use Rattle.arith.proofs.wrapping_sub.Reads as wrapping-sub-reads
 
--- src/lib.rt:87:51
 wrapping-mul-requires : tie.Need-wrapping-mul-requires
 wrapping-mul-requires c κs = search needs
 
--- src/lib.rt:87:28
 wrapping-sub-requires : tie.Need-wrapping-sub-requires
 wrapping-sub-requires c κs = search needs
 
--- src/lib.rt:87:5
 wrapping-mul-requires-2 : tie.Need-wrapping-mul-requires-2
 wrapping-mul-requires-2 c κs = search needs
 
--- src/lib.rt:84:1
 returns : tie.Need-returns
 returns c = cc
 

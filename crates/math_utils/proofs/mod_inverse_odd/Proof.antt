@@ -11,32 +11,22 @@ use native.Mathlib.Omega.{arith}
 use Prim.Native.Nat.{_%_}
 use Rattle.math_utils.proofs.mod_inverse_odd.Statement.{statement}
 use Rattle.math_utils.proofs.mod_inverse_odd.Tie as tie
-use Rattle.math_utils.proofs.mod_inverse_odd.Reads as reads
-use Rattle.math_utils.proofs.mod_inverse_odd.Lts as lts
-use Rattle.arith.proofs.bitmask.Reads as bitmask-reads
-use Rattle.math_utils.proofs.inverse_word.Reads as inverse-word-reads
 
--- src/lib.rt:107:9
 returns : tie.Need-returns
 returns c = simp (ne-eqb (c .before .args .x % 2) 1 (omega arith))
 
--- src/lib.rt:110:9
 returns-2 : tie.Need-returns-2
 returns-2 c = simp (eq-eqb (c .before .before .args .x % 2) 1 (omega arith), between-low 1 64 (c .before .before .args .bits) (omega arith))
 
--- src/lib.rt:113:9
 returns-3 : tie.Need-returns-3
 returns-3 c = simp (eq-eqb (c .before .before .before .args .x % 2) 1 (omega arith), between-high 1 64 _ (c .if3 .taken))
 
--- src/lib.rt:115:19
 inverse-word-requires : tie.Need-inverse-word-requires
 inverse-word-requires c κs = search needs
 
--- src/lib.rt:115:37
 bitmask-requires : tie.Need-bitmask-requires
 bitmask-requires c κs = search needs
 
--- src/lib.rt:103:1
 returns-4 : tie.Need-returns-4
 returns-4 c =
     let k = c .before .before .before .before .before .args in

@@ -15,40 +15,28 @@ use Rattle.theory.specs.Ranges.{between-true, between-low, between-high}
 use native.Mathlib.Omega.{arith}
 use Rattle.math_utils.proofs.odd_part_factorial.Statement.{statement}
 use Rattle.math_utils.proofs.odd_part_factorial.Tie as tie
-use Rattle.math_utils.proofs.odd_part_factorial.Reads as reads
-use Rattle.math_utils.proofs.odd_part_factorial.Lts as lts
-use Rattle.arith.proofs.bitmask.Reads as bitmask-reads
-use Rattle.math_utils.proofs.tables.odd_factorials.Reads as odd-factorials-reads
 
--- src/lib.rt:71:9
 returns : tie.Need-returns
 returns c = simp (lt-leb _ 255 (c .if1 .taken))
 
--- src/lib.rt:74:9
 returns-2 : tie.Need-returns-2
 returns-2 c = simp (le-leb _ 255 (c .before .if1 .left), between-low 1 64 (c .before .before .args .bitwidth) (omega arith))
 
--- src/lib.rt:77:9
 returns-3 : tie.Need-returns-3
 returns-3 c = simp (le-leb _ 255 (c .before .before .if1 .left), between-high 1 64 _ (c .if3 .taken))
 
--- src/lib.rt:79:17
 odd-factorials-requires : tie.Need-odd-factorials-requires
 odd-factorials-requires c κs = search needs
 
--- src/lib.rt:80:19
 mul-t10 : tie.Need-mul-t10
 mul-t10 c = search needs
 
--- src/lib.rt:80:19
 array-read-t13 : tie.Need-array-read-t13
 array-read-t13 c = search needs
 
--- src/lib.rt:80:39
 bitmask-requires : tie.Need-bitmask-requires
 bitmask-requires c κs = search needs
 
--- src/lib.rt:67:1
 returns-4 : tie.Need-returns-4
 returns-4 c =
     let k = c .before .before .before .before .before .args in

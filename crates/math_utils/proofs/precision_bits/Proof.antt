@@ -3,18 +3,13 @@ use borrow.Author.Needs.{needs}
 use borrow.Author.Tests.{le-leb, lt-leb}
 use Rattle.math_utils.proofs.precision_bits.Statement.{statement}
 use Rattle.math_utils.proofs.precision_bits.Tie as tie
-use Rattle.math_utils.proofs.precision_bits.Reads as reads
-use Rattle.math_utils.proofs.precision_bits.Lts as lts
 
--- src/lib.rt:36:25
 sub-t5 : tie.Need-sub-t5
 sub-t5 c = search needs
 
--- src/lib.rt:30:1
 returns : tie.Need-returns
 returns c = simp (le-leb _ _ (c .if1 .taken))
 
--- src/lib.rt:30:1
 returns-2 : tie.Need-returns-2
 returns-2 c = simp (lt-leb _ _ (c .if1 .left))
 

@@ -3,14 +3,10 @@ use Rattle.math_utils.proofs.twos_in_factorial.Statement.{statement}
 use native.Mathlib.Omega.{arith}
 use Rattle.theory.specs.Twos.{legendre}
 use Rattle.math_utils.proofs.twos_in_factorial.Tie as tie
-use Rattle.math_utils.proofs.twos_in_factorial.Reads as reads
-use Rattle.math_utils.proofs.twos_in_factorial.Lts as lts
 
--- src/lib.rt:20:5
 sub-result : tie.Need-sub-result
 sub-result c = omega (arith, legendre (c .args .k))
 
--- src/lib.rt:17:1
 returns : tie.Need-returns
 returns c = omega (arith, legendre (c .args .k))
 

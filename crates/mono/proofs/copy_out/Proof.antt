@@ -7,8 +7,6 @@ use Rattle.theory.specs.Tables.{Filled, filled-start, filled-step, filled-part}
 use Prim.Native.Nat.{_-_, _≤_, zero-le}
 use Rattle.meaning.specs.Tables.{at}
 use Rattle.mono.proofs.copy_out.Tie as tie
-use Rattle.mono.proofs.copy_out.Reads as reads
-use Rattle.mono.proofs.copy_out.Lts as lts
 
 abbrev Inv-loop : tie.InvT-loop
 Inv-loop out₀ count exponents i₀ out i = Filled (at exponents) out₀ out i × (i ≤ count)
@@ -16,27 +14,21 @@ Inv-loop out₀ count exponents i₀ out i = Filled (at exponents) out₀ out i 
 abbrev μ-loop : tie.MeasureT-loop
 μ-loop out₀ count exponents i₀ out i = count - i
 
--- src/lib.rt:53:5
 loop-holds : tie.Need-loop-holds Inv-loop μ-loop
 loop-holds c = (filled-start _ _, zero-le)
 
--- src/lib.rt:54:18
 array-read-out : tie.Need-array-read-out Inv-loop μ-loop
 array-read-out c = search needs
 
--- src/lib.rt:54:9
 slice-write-out : tie.Need-slice-write-out Inv-loop μ-loop
 slice-write-out c = omega (arith, c .before .loop .inv .0 .same)
 
--- src/lib.rt:55:9
 add-i : tie.Need-add-i Inv-loop μ-loop
 add-i c = search needs
 
--- src/lib.rt:53:5
 loop-less : tie.Need-loop-less Inv-loop μ-loop
 loop-less c = search needs
 
--- src/lib.rt:53:5
 loop-again : tie.Need-loop-again Inv-loop μ-loop
 loop-again c =
     let b = c .before in (
@@ -44,11 +36,9 @@ loop-again c =
       omega arith,
     )
 
--- src/lib.rt:48:1
 same-length : tie.Need-same-length Inv-loop μ-loop
 same-length c = c .before .loop .inv .0 .same
 
--- src/lib.rt:48:1
 returns : tie.Need-returns Inv-loop μ-loop
 returns c = filled-part _ _ (c .before .loop .out) (c .before .loop .i) (c .before .before .args .count) (c .before .loop .inv .0) (omega arith)
 

@@ -10,9 +10,6 @@ use Rattle.meaning.specs.Tables.{at}
 use Rattle.meaning.specs.Leaves.{largest}
 use Rattle.theory.specs.Largest.{largest-last}
 use Rattle.mono.proofs.exponent_max.Tie as tie
-use Rattle.mono.proofs.exponent_max.Reads as reads
-use Rattle.mono.proofs.exponent_max.Lts as lts
-use Rattle.mono.proofs.larger.Reads as larger-reads
 
 abbrev Inv-loop : tie.InvT-loop
 Inv-loop count exponents found₀ i₀ found i = (i ≤ count) × (found ≡ largest i (at exponents))
@@ -20,35 +17,28 @@ Inv-loop count exponents found₀ i₀ found i = (i ≤ count) × (found ≡ lar
 abbrev μ-loop : tie.MeasureT-loop
 μ-loop count exponents found₀ i₀ found i = count - i
 
--- src/lib.rt:90:5
 loop-holds : tie.Need-loop-holds Inv-loop μ-loop
 unfolding largest
 loop-holds c = (zero-le, refl)
 
--- src/lib.rt:91:31
 array-read-larger : tie.Need-array-read-larger Inv-loop μ-loop
 array-read-larger c = search needs
 
--- src/lib.rt:91:9
 larger-requires : tie.Need-larger-requires Inv-loop μ-loop
 larger-requires c κs = search needs
 
--- src/lib.rt:92:9
 add-i : tie.Need-add-i Inv-loop μ-loop
 add-i c = search needs
 
--- src/lib.rt:90:5
 loop-less : tie.Need-loop-less Inv-loop μ-loop
 loop-less c = search needs
 
--- src/lib.rt:90:5
 loop-again : tie.Need-loop-again Inv-loop μ-loop
 loop-again c =
     let b = c .before .before .loop in
     let t = c .before .before .before .args .t1 in
     (omega arith, c .larger .ensures ∙ ap (λ (n : ℕ). max n (at t (b .i))) (b .inv .1) ∙ sym (largest-last (b .i) (at t)) ∙ ap (λ (n : ℕ). largest n (at t)) (sym (add-one (b .i))))
 
--- src/lib.rt:84:1
 returns : tie.Need-returns Inv-loop μ-loop
 returns c =
     let e : c .before .loop .i ≡ c .before .before .args .count = omega arith in

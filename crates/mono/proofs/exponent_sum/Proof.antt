@@ -13,8 +13,6 @@ use Rattle.meaning.specs.Tables.{at}
 use Rattle.meaning.specs.Sums.{sum}
 use Rattle.theory.specs.Sums.{sum-last}
 use Rattle.mono.proofs.exponent_sum.Tie as tie
-use Rattle.mono.proofs.exponent_sum.Reads as reads
-use Rattle.mono.proofs.exponent_sum.Lts as lts
 
 abbrev Inv-loop : tie.InvT-loop
 Inv-loop count exponents total₀ i₀ total i = (i ≤ count) × (total ≤ 255 * i) × (total ≡ sum i (at exponents))
@@ -22,34 +20,27 @@ Inv-loop count exponents total₀ i₀ total i = (i ≤ count) × (total ≤ 255
 abbrev μ-loop : tie.MeasureT-loop
 μ-loop count exponents total₀ i₀ total i = count - i
 
--- src/lib.rt:66:5
 loop-holds : tie.Need-loop-holds Inv-loop μ-loop
 unfolding sum
 loop-holds c = (zero-le, zero-le, refl)
 
--- src/lib.rt:67:18
 array-read-total : tie.Need-array-read-total Inv-loop μ-loop
 array-read-total c = search needs
 
--- src/lib.rt:67:18
 cast-total : tie.Need-cast-total Inv-loop μ-loop
 cast-total c = search needs
 
--- src/lib.rt:67:9
 add-total : tie.Need-add-total Inv-loop μ-loop
 add-total c =
     let e : Fits w8 (getD (c .before .before .args .t1) (c .before .loop .i) 0) = search needs in
     omega arith
 
--- src/lib.rt:68:9
 add-i : tie.Need-add-i Inv-loop μ-loop
 add-i c = search needs
 
--- src/lib.rt:66:5
 loop-less : tie.Need-loop-less Inv-loop μ-loop
 loop-less c = search needs
 
--- src/lib.rt:66:5
 loop-again : tie.Need-loop-again Inv-loop μ-loop
 loop-again c =
     let b = c .before .loop in
@@ -57,7 +48,6 @@ loop-again c =
     let e : Fits w8 (at t (b .i)) = search needs in
     (omega arith, omega arith, ap (_+ at t (b .i)) (b .inv .2) ∙ sym (sum-last (b .i) (at t)) ∙ ap (λ (n : ℕ). sum n (at t)) (sym (add-one (b .i))))
 
--- src/lib.rt:60:1
 returns : tie.Need-returns Inv-loop μ-loop
 returns c =
     let e : c .before .loop .i ≡ c .before .before .args .count = omega arith in

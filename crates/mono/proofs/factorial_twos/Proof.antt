@@ -14,9 +14,6 @@ use Rattle.meaning.specs.Sums.{sum}
 use Rattle.meaning.specs.Factorials.{factorial, twos}
 use Rattle.theory.specs.Sums.{sum-last}
 use Rattle.mono.proofs.factorial_twos.Tie as tie
-use Rattle.mono.proofs.factorial_twos.Reads as reads
-use Rattle.mono.proofs.factorial_twos.Lts as lts
-use Rattle.math_utils.proofs.twos_in_factorial.Reads as twos-in-factorial-reads
 
 abbrev Inv-loop : tie.InvT-loop
 Inv-loop count exponents total₀ i₀ total i = (i ≤ count) × (total ≤ 255 * i) × (total ≡ sum i (λ k. twos (factorial (at exponents k))))
@@ -24,20 +21,16 @@ Inv-loop count exponents total₀ i₀ total i = (i ≤ count) × (total ≤ 255
 abbrev μ-loop : tie.MeasureT-loop
 μ-loop count exponents total₀ i₀ total i = count - i
 
--- src/lib.rt:104:5
 loop-holds : tie.Need-loop-holds Inv-loop μ-loop
 unfolding sum
 loop-holds c = (zero-le, zero-le, refl)
 
--- src/lib.rt:105:48
 array-read-twos-in-factorial : tie.Need-array-read-twos-in-factorial Inv-loop μ-loop
 array-read-twos-in-factorial c = search needs
 
--- src/lib.rt:105:48
 cast-twos-in-factorial : tie.Need-cast-twos-in-factorial Inv-loop μ-loop
 cast-twos-in-factorial c = search needs
 
--- src/lib.rt:105:18
 twos-in-factorial-requires : tie.Need-twos-in-factorial-requires Inv-loop μ-loop
 twos-in-factorial-requires c κs = search needs
 
@@ -49,19 +42,15 @@ few c =
     let e : Fits w8 (at t i) = search needs in
     omega (arith, legendre (at t i), c .twos-in-factorial .ensures)
 
--- src/lib.rt:105:9
 add-total : tie.Need-add-total Inv-loop μ-loop
 add-total c = omega (arith, few c)
 
--- src/lib.rt:106:9
 add-i : tie.Need-add-i Inv-loop μ-loop
 add-i c = search needs
 
--- src/lib.rt:104:5
 loop-less : tie.Need-loop-less Inv-loop μ-loop
 loop-less c = search needs
 
--- src/lib.rt:104:5
 loop-again : tie.Need-loop-again Inv-loop μ-loop
 loop-again c =
     let b = c .before .before .loop in
@@ -69,7 +58,6 @@ loop-again c =
     let q : ℕ → ℕ = λ k. twos (factorial (at t k)) in
     (omega arith, omega (arith, few c), ap₂ _+_ (b .inv .2) (c .twos-in-factorial .ensures) ∙ sym (sum-last (b .i) q) ∙ ap (λ (n : ℕ). sum n q) (sym (add-one (b .i))))
 
--- src/lib.rt:98:1
 returns : tie.Need-returns Inv-loop μ-loop
 returns c =
     let e : c .before .loop .i ≡ c .before .before .args .count = omega arith in

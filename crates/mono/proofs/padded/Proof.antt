@@ -11,8 +11,6 @@ use Rattle.theory.specs.Tables.{Filled, filled-start, filled-step, filled-part}
 use Prim.Native.Nat.{_-_, _≤_, zero-le}
 use Rattle.meaning.specs.Tables.{at}
 use Rattle.mono.proofs.padded.Tie as tie
-use Rattle.mono.proofs.padded.Reads as reads
-use Rattle.mono.proofs.padded.Lts as lts
 
 abbrev Inv-loop : tie.InvT-loop
 Inv-loop exps count exponents₀ i₀ exponents i = Filled (at exps) exponents₀ exponents i × (i ≤ count)
@@ -20,27 +18,21 @@ Inv-loop exps count exponents₀ i₀ exponents i = Filled (at exps) exponents�
 abbrev μ-loop : tie.MeasureT-loop
 μ-loop exps count exponents₀ i₀ exponents i = count - i
 
--- src/lib.rt:40:5
 loop-holds : tie.Need-loop-holds Inv-loop μ-loop
 loop-holds c = (filled-start _ _, zero-le)
 
--- src/lib.rt:41:24
 shared-slice-read-exponents : tie.Need-shared-slice-read-exponents Inv-loop μ-loop
 shared-slice-read-exponents c = search needs
 
--- src/lib.rt:41:9
 array-write-exponents : tie.Need-array-write-exponents Inv-loop μ-loop
 array-write-exponents c = omega arith
 
--- src/lib.rt:42:9
 add-i : tie.Need-add-i Inv-loop μ-loop
 add-i c = search needs
 
--- src/lib.rt:40:5
 loop-less : tie.Need-loop-less Inv-loop μ-loop
 loop-less c = search needs
 
--- src/lib.rt:40:5
 loop-again : tie.Need-loop-again Inv-loop μ-loop
 loop-again c =
     let b = c .before .before in (
@@ -48,7 +40,6 @@ loop-again c =
       omega arith,
     )
 
--- src/lib.rt:34:1
 returns : tie.Need-returns Inv-loop μ-loop
 returns c =
     let b = c .before .before in

@@ -10,30 +10,19 @@ use Rattle.meaning.specs.Recovery.{accepts, answer}
 use Rattle.theory.specs.WordDifferences.{recovered-of-steps}
 use Rattle.multivar_poly_recovery.proofs.recover_from_grid.Statement.{statement}
 use Rattle.multivar_poly_recovery.proofs.recover_from_grid.Tie as tie
-use Rattle.multivar_poly_recovery.proofs.recover_from_grid.Reads as reads
-use Rattle.multivar_poly_recovery.proofs.recover_from_grid.Lts as lts
-use Rattle.math_utils.proofs.tables.odd_factorial_inverses.Reads as odd-factorial-inverses-reads
-use Rattle.multivar_poly_recovery.proofs.differences.difference_all.Reads as difference-all-reads
-use Rattle.multivar_poly_recovery.proofs.extraction.extract.Reads as extract-reads
-use Rattle.tables.proofs.copy.Reads as copy-reads
 
--- src/lib.rt:26:5
 copy-requires : tie.Need-copy-requires
 copy-requires c κs = search needs
 
--- src/lib.rt:27:5
 difference-all-requires : tie.Need-difference-all-requires
 difference-all-requires c κs = search needs
 
--- src/lib.rt:28:20
 odd-factorial-inverses-requires : tie.Need-odd-factorial-inverses-requires
 odd-factorial-inverses-requires c κs = search needs
 
--- src/lib.rt:29:8
 extract-requires : tie.Need-extract-requires
 extract-requires c κs = search needs
 
--- src/lib.rt:30:9
 same-length : tie.Need-same-length
 same-length c = search needs
 
@@ -53,17 +42,14 @@ steps c =
     recovered-of-steps (b .args .bitwidth) (now (b .args .degrees)) (now (b .args .values)) _ _ _ _ (p .2) (p .0)
     (y .copy .ensures ∙ simp (eq-eqb _ _ (p .0 ∙ sym (p .1)))) (d .difference-all .ensures) (x .extract .ensures .0) (x .extract .ensures .1)
 
--- src/lib.rt:30:9
 returns : tie.Need-returns
 returns c =
     let s = steps (c .before) in
     (ap (λ (b : Bool). cond b 0 6) (sym (c .if1 .taken) ∙ s .0), s .1)
 
--- src/lib.rt:20:1
 same-length-2 : tie.Need-same-length-2
 same-length-2 c = search needs
 
--- src/lib.rt:20:1
 returns-2 : tie.Need-returns-2
 returns-2 c =
     let s = steps (c .before) in

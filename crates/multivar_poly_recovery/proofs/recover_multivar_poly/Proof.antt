@@ -17,20 +17,13 @@ use Rattle.answers.specs.Said.{saidNumber}
 use Rattle.answers.specs.Laws.{first-code, left-code}
 use Rattle.multivar_poly_recovery.proofs.recover_multivar_poly.Statement.{statement}
 use Rattle.multivar_poly_recovery.proofs.recover_multivar_poly.Tie as tie
-use Rattle.multivar_poly_recovery.proofs.recover_multivar_poly.Reads as reads
-use Rattle.multivar_poly_recovery.proofs.recover_multivar_poly.Lts as lts
-use Rattle.multivar_poly_recovery.proofs.recover_from_grid.Reads as recover-from-grid-reads
-use Rattle.poly.proofs.check_tables.Reads as check-tables-reads
 
--- src/lib.rt:51:11
 check-tables-requires : tie.Need-check-tables-requires
 check-tables-requires c κs = search needs
 
--- src/lib.rt:52:26
 enum-known-refusal : tie.Need-enum-known-refusal
 enum-known-refusal c = search needs
 
--- src/lib.rt:54:17
 enum-told : tie.Need-enum-told
 enum-told c = search needs
 
@@ -49,15 +42,12 @@ ok c = ready _ _ _ _ _ _ _ (accepted c)
 abbrev recoveredBox : ℕ → List ℕ → List ℕ → List ℕ
 recoveredBox w ds v = cond (accepts w ds v) (answer w ds v) (tabulate (cells ds) (λ i. 0))
 
--- src/lib.rt:55:39
 array-share-prefix-degrees : tie.Need-array-share-prefix-degrees
 array-share-prefix-degrees c = ready-passes (ok c) .short
 
--- src/lib.rt:55:39
 slice-aggregate-recover-from-grid : tie.Need-slice-aggregate-recover-from-grid
 slice-aggregate-recover-from-grid c = sym (length-take-le _ _ (ready-passes (ok (c .before)) .short))
 
--- src/lib.rt:55:13
 recover-from-grid-requires : tie.Need-recover-from-grid-requires
 recover-from-grid-requires c κs =
     let r = ok (c .before .before) in
@@ -65,11 +55,9 @@ recover-from-grid-requires c κs =
     let e = sym (take-cube (now (k .support)) (k .max-degree) (ready-passes r .short)) in
     (r .given-length ∙ ap cells e, r .out-length ∙ ap cells e, ready-high r)
 
--- src/lib.rt:40:1
 same-length : tie.Need-same-length
 same-length c = search needs
 
--- src/lib.rt:40:1
 returns : tie.Need-returns
 unfolding recoveryNumber recoveryLeft
 returns c =
@@ -77,11 +65,9 @@ returns c =
     let r = c .before .refusal .given .0 .0 in
     (sym (first-code r _ n), sym (left-code r _ _ n))
 
--- src/lib.rt:40:1
 same-length-2 : tie.Need-same-length-2
 same-length-2 c = search needs
 
--- src/lib.rt:40:1
 returns-2 : tie.Need-returns-2
 unfolding recoveryNumber recoveryLeft
 returns-2 c =

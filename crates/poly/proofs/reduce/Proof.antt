@@ -20,20 +20,13 @@ use Rattle.meaning.specs.Values.{boxReduced}
 use denote.Ref.{now}
 use Rattle.poly.proofs.reduce.Statement.{statement}
 use Rattle.poly.proofs.reduce.Tie as tie
-use Rattle.poly.proofs.reduce.Reads as reads
-use Rattle.poly.proofs.reduce.Lts as lts
-use Rattle.poly.proofs.cells.reduce_box.Reads as reduce-box-reads
-use Rattle.poly.proofs.settings.Reads as settings-reads
 
--- src/lib.rt:233:11
 settings-requires : tie.Need-settings-requires
 settings-requires c κs = search needs
 
--- src/lib.rt:234:25
 enum-known-refusal : tie.Need-enum-known-refusal
 enum-known-refusal c = search needs
 
--- src/lib.rt:235:23
 enum-known-count : tie.Need-enum-known-count
 enum-known-count c = search needs
 
@@ -61,21 +54,17 @@ turned c =
     let k = c .before .before .before .before .before .args in
     unsettled false (k .total) (between 2 64 (k .bitwidth)) (k .support .now) (cube (k .support .now) (k .max-degree)) (c .before .before .settings .ensures) (c .refusal .given .1)
 
--- src/lib.rt:237:17
 returns : tie.Need-returns
 returns c =
     let k = c .before .before .before .before .before .before .before .args in
     reduce-length (k .bitwidth) (k .coeffs .now) (ok (c .before .before)) (ne-eqb _ _ (λ q. c .if1 .taken (q ∙ sym (ok (c .before .before) .counted))))
 
--- src/lib.rt:240:39
 array-share-prefix-degrees : tie.Need-array-share-prefix-degrees
 array-share-prefix-degrees c = short (c .before .before .before)
 
--- src/lib.rt:240:39
 slice-aggregate-reduce-box : tie.Need-slice-aggregate-reduce-box
 slice-aggregate-reduce-box c = sym (length-take-le _ _ (short (c .before .before .before .before)))
 
--- src/lib.rt:240:13
 reduce-box-requires : tie.Need-reduce-box-requires
 reduce-box-requires c κs =
     let b = c .before .before .before .before in
@@ -85,15 +74,12 @@ reduce-box-requires c κs =
       le-of-between 2 64 (k .bitwidth) (passes false (k .total) (between 2 64 (k .bitwidth)) (k .support .now) ds (ok b .passes) .width),
     )
 
--- src/lib.rt:223:1
 returns-2 : tie.Need-returns-2
 returns-2 c = let k = c .before .before .before .before .before .before .args in reduce-turned (k .bitwidth) (k .coeffs .now) (turned (c .before))
 
--- src/lib.rt:223:1
 same-length : tie.Need-same-length
 same-length c = search needs
 
--- src/lib.rt:223:1
 returns-3 : tie.Need-returns-3
 returns-3 c =
     let b = c .before .before .before .before .before .before .before in

@@ -11,32 +11,22 @@ use Rattle.answers.specs.Laws.{left-code}
 use Rattle.theory.specs.NormalCalls.{reduce-accepted, reduce-normal}
 use Rattle.poly_normalizer.proofs.normalize_polynomial.Statement.{statement}
 use Rattle.poly_normalizer.proofs.normalize_polynomial.Tie as tie
-use Rattle.poly_normalizer.proofs.normalize_polynomial.Reads as reads
-use Rattle.poly_normalizer.proofs.normalize_polynomial.Lts as lts
-use Rattle.basis_transform.proofs.to_factorial_basis.Reads as to-factorial-basis-reads
-use Rattle.poly.proofs.reduce.Reads as reduce-reads
 
--- src/lib.rt:26:11
 to-factorial-basis-requires : tie.Need-to-factorial-basis-requires
 to-factorial-basis-requires c κs = search needs
 
--- src/lib.rt:27:26
 enum-known-refusal : tie.Need-enum-known-refusal
 enum-known-refusal c = search needs
 
--- src/lib.rt:28:43
 enum-told : tie.Need-enum-told
 enum-told c = search needs
 
--- src/lib.rt:28:30
 reduce-requires : tie.Need-reduce-requires
 reduce-requires c κs = search needs
 
--- src/lib.rt:14:1
 same-length : tie.Need-same-length
 same-length c = search needs
 
--- src/lib.rt:14:1
 returns : tie.Need-returns
 unfolding convertLeft
 returns c =
@@ -45,11 +35,9 @@ returns c =
     let n = sym (b .to-factorial-basis .ensures .0) ∙ ap saidNumber (c .before .refusal .given .1) in
     (sym n, b .to-factorial-basis .ensures .1 ∙ left-code r _ _ n ∙ sym (left-code r _ _ n))
 
--- src/lib.rt:14:1
 same-length-2 : tie.Need-same-length-2
 same-length-2 c = search needs
 
--- src/lib.rt:14:1
 returns-2 : tie.Need-returns-2
 unfolding convertLeft
 returns-2 c =

@@ -5,87 +5,64 @@ use native.Mathlib.Omega.{arith}
 use lib.Seq.{length-take-le}
 use Rattle.replay_calls.proofs.replay_line.Statement.{statement}
 use Rattle.replay_calls.proofs.replay_line.Tie as tie
-use Rattle.replay_calls.proofs.replay_line.Reads as reads
-use Rattle.replay_calls.proofs.replay_line.Lts as lts
-use Rattle.replay_calls.proofs.run.Reads as run-reads
 
--- src/main.rt:98:9
 returns : tie.Need-returns
 returns c = search needs
 
--- src/main.rt:100:14
 shared-slice-read-k : tie.Need-shared-slice-read-k
 shared-slice-read-k c = search needs
 
--- src/main.rt:101:17
 shared-slice-read-size : tie.Need-shared-slice-read-size
 shared-slice-read-size c = search needs
 
--- src/main.rt:102:8
 sub-if2 : tie.Need-sub-if2
 sub-if2 c = search needs
 
--- src/main.rt:103:9
 returns-2 : tie.Need-returns-2
 returns-2 c = search needs
 
--- src/main.rt:106:9
 returns-3 : tie.Need-returns-3
 returns-3 c = search needs
 
--- src/main.rt:109:9
 returns-4 : tie.Need-returns-4
 returns-4 c = search needs
 
--- src/main.rt:111:15
 add-end : tie.Need-add-end
 add-end c = search needs
 
--- src/main.rt:113:9
 shared-slice-read-run : tie.Need-shared-slice-read-run
 shared-slice-read-run c = search needs
 
--- src/main.rt:114:9
 shared-slice-read-run-2 : tie.Need-shared-slice-read-run-2
 shared-slice-read-run-2 c = search needs
 
--- src/main.rt:115:9
 shared-slice-read-run-3 : tie.Need-shared-slice-read-run-3
 shared-slice-read-run-3 c = search needs
 
--- src/main.rt:116:9
 sub-run : tie.Need-sub-run
 sub-run c = search needs
 
--- src/main.rt:116:9
 part-run-start : tie.Need-part-run-start
 part-run-start c = search needs
 
--- src/main.rt:116:9
 part-run-end : tie.Need-part-run-end
 part-run-end c = search needs
 
--- src/main.rt:117:9
 slice-aggregate-run : tie.Need-slice-aggregate-run
 slice-aggregate-run c = sym (length-take-le _ _ (omega arith))
 
--- src/main.rt:118:9
 slice-relend-prefix-run : tie.Need-slice-relend-prefix-run
 slice-relend-prefix-run c = search needs
 
--- src/main.rt:118:9
 slice-aggregate-run-2 : tie.Need-slice-aggregate-run-2
 slice-aggregate-run-2 c = sym (length-take-le _ _ (omega arith))
 
--- src/main.rt:112:5
 run-requires : tie.Need-run-requires
 run-requires c κs = search needs
 
--- src/main.rt:96:1
 same-length : tie.Need-same-length
 same-length c = search needs
 
--- src/main.rt:96:1
 returns-5 : tie.Need-returns-5
 returns-5 c = search needs
 

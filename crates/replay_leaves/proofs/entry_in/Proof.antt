@@ -7,74 +7,55 @@ use lib.Seq.{length-take-le}
 use Rattle.theory.specs.Words.{product-fits}
 use Rattle.replay_leaves.proofs.entry_in.Statement.{statement}
 use Rattle.replay_leaves.proofs.entry_in.Tie as tie
-use Rattle.replay_leaves.proofs.entry_in.Reads as reads
-use Rattle.replay_leaves.proofs.entry_in.Lts as lts
-use Rattle.replay_leaves.proofs.build.Reads as build-reads
 
--- src/main.rt:80:16
 add-side : tie.Need-add-side
 add-side c = search needs
 
--- src/main.rt:81:16
 mul-size : tie.Need-mul-size
 mul-size c =
     let n = c .before .args .degree in
     let h : n + 1 < 2 ^ 32 = omega (arith, c .before .fits .degree) in
     record { fits = product-fits 32 h h }
 
--- src/main.rt:83:9
 returns : tie.Need-returns
 returns c = search needs
 
--- src/main.rt:85:50
 slice-relend-prefix-build : tie.Need-slice-relend-prefix-build
 slice-relend-prefix-build c = search needs
 
--- src/main.rt:85:50
 slice-aggregate-build : tie.Need-slice-aggregate-build
 slice-aggregate-build c = sym (length-take-le _ _ (omega arith))
 
--- src/main.rt:85:9
 build-requires : tie.Need-build-requires
 build-requires c κs = search needs
 
--- src/main.rt:88:9
 same-length : tie.Need-same-length
 same-length c = search needs
 
--- src/main.rt:88:9
 returns-2 : tie.Need-returns-2
 returns-2 c = search needs
 
--- src/main.rt:90:17
 mul-entry : tie.Need-mul-entry
 mul-entry c = search needs
 
--- src/main.rt:90:17
 slice-read-entry : tie.Need-slice-read-entry
 slice-read-entry c = search needs
 
--- src/main.rt:92:30
 enum-told : tie.Need-enum-told
 enum-told c = search needs
 
--- src/main.rt:93:26
 enum-known-outcome : tie.Need-enum-known-outcome
 enum-known-outcome c = search needs
 
--- src/main.rt:79:1
 same-length-2 : tie.Need-same-length-2
 same-length-2 c = search needs
 
--- src/main.rt:79:1
 returns-3 : tie.Need-returns-3
 returns-3 c = search needs
 
--- src/main.rt:79:1
 same-length-3 : tie.Need-same-length-3
 same-length-3 c = search needs
 
--- src/main.rt:79:1
 returns-4 : tie.Need-returns-4
 returns-4 c = search needs
 

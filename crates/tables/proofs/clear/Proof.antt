@@ -7,8 +7,6 @@ use lib.ListN.{length, length-set}
 use Rattle.theory.specs.Tables.{Filled, filled-start, filled-step, filled-done}
 use mathlib.Core.Path.{refl}
 use Rattle.tables.proofs.clear.Tie as tie
-use Rattle.tables.proofs.clear.Reads as reads
-use Rattle.tables.proofs.clear.Lts as lts
 
 abbrev Inv-loop : tie.InvT-loop
 Inv-loop table₀ i₀ table i = Filled (λ n. 0) table₀ table i
@@ -16,35 +14,27 @@ Inv-loop table₀ i₀ table i = Filled (λ n. 0) table₀ table i
 abbrev μ-loop : tie.MeasureT-loop
 μ-loop table₀ i₀ table i = length table - i
 
--- src/lib.rt:27:5
 loop-holds : tie.Need-loop-holds Inv-loop μ-loop
 loop-holds c = filled-start _ _
 
--- src/lib.rt:28:9
 mul-table : tie.Need-mul-table Inv-loop μ-loop
 mul-table c = search needs
 
--- src/lib.rt:28:9
 slice-write-table : tie.Need-slice-write-table Inv-loop μ-loop
 slice-write-table c = search needs
 
--- src/lib.rt:29:9
 add-i : tie.Need-add-i Inv-loop μ-loop
 add-i c = search needs
 
--- src/lib.rt:27:5
 loop-less : tie.Need-loop-less Inv-loop μ-loop
 loop-less c = simp length-set (omega arith)
 
--- src/lib.rt:27:5
 loop-again : tie.Need-loop-again Inv-loop μ-loop
 loop-again c = let b = c .before in filled-step _ _ (b .loop .table) (b .loop .i) 0 (b .loop .inv) (c .loop-test .taken) refl
 
--- src/lib.rt:23:1
 same-length : tie.Need-same-length Inv-loop μ-loop
 same-length c = c .before .loop .inv .same
 
--- src/lib.rt:23:1
 returns : tie.Need-returns Inv-loop μ-loop
 returns c = let b = c .before in filled-done _ _ (b .loop .table) (b .loop .i) (b .loop .inv) (omega (arith, b .loop .inv .same))
 

@@ -11,8 +11,6 @@ use denote.Ref.{now}
 use Rattle.meaning.specs.Tables.{at}
 use Rattle.theory.specs.Tables.{eq-tabulate}
 use Rattle.tables.proofs.copy.Tie as tie
-use Rattle.tables.proofs.copy.Reads as reads
-use Rattle.tables.proofs.copy.Lts as lts
 
 abbrev Inv-loop : tie.InvT-loop
 Inv-loop from to₀ i₀ to i = Filled (at from) to₀ to i
@@ -20,47 +18,36 @@ Inv-loop from to₀ i₀ to i = Filled (at from) to₀ to i
 abbrev μ-loop : tie.MeasureT-loop
 μ-loop from to₀ i₀ to i = length to - i
 
--- src/lib.rt:13:9
 returns : tie.Need-returns Inv-loop μ-loop
 returns c = simp (ne-eqb _ _ (c .if1 .taken))
 
--- src/lib.rt:16:5
 loop-holds : tie.Need-loop-holds Inv-loop μ-loop
 loop-holds c = filled-start _ _
 
--- src/lib.rt:17:17
 mul-to : tie.Need-mul-to Inv-loop μ-loop
 mul-to c = search needs
 
--- src/lib.rt:17:17
 shared-slice-read-to : tie.Need-shared-slice-read-to Inv-loop μ-loop
 shared-slice-read-to c = omega (arith, c .before .before .loop .inv .same)
 
--- src/lib.rt:17:9
 mul-to-2 : tie.Need-mul-to-2 Inv-loop μ-loop
 mul-to-2 c = search needs
 
--- src/lib.rt:17:9
 slice-write-to : tie.Need-slice-write-to Inv-loop μ-loop
 slice-write-to c = search needs
 
--- src/lib.rt:18:9
 add-i : tie.Need-add-i Inv-loop μ-loop
 add-i c = search needs
 
--- src/lib.rt:16:5
 loop-less : tie.Need-loop-less Inv-loop μ-loop
 loop-less c = simp length-set (omega arith)
 
--- src/lib.rt:16:5
 loop-again : tie.Need-loop-again Inv-loop μ-loop
 loop-again c = filled-step _ _ (c .before .before .loop .to) (c .before .before .loop .i) _ (c .before .before .loop .inv) (c .before .loop-test .taken) refl
 
--- src/lib.rt:9:1
 same-length : tie.Need-same-length Inv-loop μ-loop
 same-length c = c .before .loop .inv .same
 
--- src/lib.rt:9:1
 returns-2 : tie.Need-returns-2 Inv-loop μ-loop
 returns-2 c =
     let b = c .before in

@@ -2,20 +2,13 @@
 use borrow.Author.Needs.{needs}
 use Rattle.cobra.proofs.boxes.cobra_box_is_valid.Statement.{statement}
 use Rattle.cobra.proofs.boxes.cobra_box_is_valid.Tie as tie
-use Rattle.cobra.proofs.boxes.cobra_box_is_valid.Reads as reads
-use Rattle.cobra.proofs.boxes.cobra_box_is_valid.Lts as lts
-use Rattle.answers.proofs.deliver_truth.Reads as deliver-truth-reads
-use Rattle.poly.proofs.is_valid.Reads as is-valid-reads
 
--- src/boxes.rt:24:28
 is-valid-requires : tie.Need-is-valid-requires
 is-valid-requires c κs = search needs
 
--- src/boxes.rt:24:5
 deliver-truth-requires : tie.Need-deliver-truth-requires
 deliver-truth-requires c κs = search needs
 
--- src/boxes.rt:13:1
 returns : tie.Need-returns
 returns c = cc
 

@@ -2,20 +2,13 @@
 use borrow.Author.Needs.{needs}
 use Rattle.cobra.proofs.boxes.cobra_box_same.Statement.{statement}
 use Rattle.cobra.proofs.boxes.cobra_box_same.Tie as tie
-use Rattle.cobra.proofs.boxes.cobra_box_same.Reads as reads
-use Rattle.cobra.proofs.boxes.cobra_box_same.Lts as lts
-use Rattle.answers.proofs.deliver_truth.Reads as deliver-truth-reads
-use Rattle.poly.proofs.same.Reads as same-reads
 
--- src/boxes.rt:45:9
 same-requires : tie.Need-same-requires
 same-requires c κs = search needs
 
--- src/boxes.rt:44:5
 deliver-truth-requires : tie.Need-deliver-truth-requires
 deliver-truth-requires c κs = search needs
 
--- src/boxes.rt:28:1
 returns : tie.Need-returns
 returns c = cc
 

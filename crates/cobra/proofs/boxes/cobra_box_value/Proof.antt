@@ -2,20 +2,13 @@
 use borrow.Author.Needs.{needs}
 use Rattle.cobra.proofs.boxes.cobra_box_value.Statement.{statement}
 use Rattle.cobra.proofs.boxes.cobra_box_value.Tie as tie
-use Rattle.cobra.proofs.boxes.cobra_box_value.Reads as reads
-use Rattle.cobra.proofs.boxes.cobra_box_value.Lts as lts
-use Rattle.answers.proofs.deliver.Reads as deliver-reads
-use Rattle.poly.proofs.value.Reads as value-reads
 
--- src/boxes.rt:75:9
 value-requires : tie.Need-value-requires
 value-requires c κs = search needs
 
--- src/boxes.rt:74:5
 deliver-requires : tie.Need-deliver-requires
 deliver-requires c κs = search needs
 
--- src/boxes.rt:62:1
 returns : tie.Need-returns
 returns c = cc
 

@@ -2,20 +2,13 @@
 use borrow.Author.Needs.{needs}
 use Rattle.cobra.proofs.bytes.cobra_value.Statement.{statement}
 use Rattle.cobra.proofs.bytes.cobra_value.Tie as tie
-use Rattle.cobra.proofs.bytes.cobra_value.Reads as reads
-use Rattle.cobra.proofs.bytes.cobra_value.Lts as lts
-use Rattle.answers.proofs.deliver.Reads as deliver-reads
-use Rattle.byte_calls.proofs.value.Reads as value-reads
 
--- src/bytes.rt
 value-requires : tie.Need-value-requires
 value-requires c κs = search needs
 
--- src/bytes.rt
 deliver-requires : tie.Need-deliver-requires
 deliver-requires c κs = search needs
 
--- src/bytes.rt
 returns : tie.Need-returns
 returns c = cc
 

@@ -5,33 +5,22 @@ use Rattle.meaning.specs.Leaves.{exponentReply}
 use borrow.Author.Tests.{eq-eqb, ne-eqb, lt-ltb, le-ltb}
 use Rattle.cobra.proofs.keys.cobra_key_exponent_at.Statement.{statement}
 use Rattle.cobra.proofs.keys.cobra_key_exponent_at.Tie as tie
-use Rattle.cobra.proofs.keys.cobra_key_exponent_at.Reads as reads
-use Rattle.cobra.proofs.keys.cobra_key_exponent_at.Lts as lts
-use Rattle.answers.proofs.deliver.Reads as deliver-reads
-use Rattle.cobra.proofs.keys.key_of.Reads as key-of-reads
-use Rattle.mono.proofs.MonomialKey.exponent_at.Reads as exponent-at-reads
 
--- src/keys.rt:75:9
 returns : tie.Need-returns
 returns c = simp (le-ltb _ 20 (c .if1 .taken))
 
--- src/keys.rt:79:9
 returns-2 : tie.Need-returns-2
 returns-2 c = simp (lt-ltb _ 20 (c .before .if1 .left), ne-eqb _ 20 (c .if2 .taken))
 
--- src/keys.rt:81:16
 key-of-requires : tie.Need-key-of-requires
 key-of-requires c κs = search needs
 
--- src/keys.rt:81:9
 exponent-at-requires : tie.Need-exponent-at-requires
 exponent-at-requires c κs = search needs
 
--- src/keys.rt:83:5
 deliver-requires : tie.Need-deliver-requires
 deliver-requires c κs = search needs
 
--- src/keys.rt:69:1
 returns-3 : tie.Need-returns-3
 returns-3 c =
     let e = c .before .before .before .before in

@@ -5,23 +5,16 @@ use mathlib.Core.Path.{_∙_}
 use borrow.Author.Tests.{eq-eqb, ne-eqb, le-leb, lt-leb}
 use Rattle.cobra.proofs.keys.cobra_key_from_exponents.Statement.{statement}
 use Rattle.cobra.proofs.keys.cobra_key_from_exponents.Tie as tie
-use Rattle.cobra.proofs.keys.cobra_key_from_exponents.Reads as reads
-use Rattle.cobra.proofs.keys.cobra_key_from_exponents.Lts as lts
-use Rattle.cobra.proofs.keys.store.Reads as store-reads
-use Rattle.mono.proofs.MonomialKey.from_exponents.Reads as from-exponents-reads
 
--- src/keys.rt:37:9
 returns : tie.Need-returns
 returns c = (simp (lt-leb _ 20 (c .if1 .taken)), simp (lt-leb _ 20 (c .if1 .taken)))
 
--- src/keys.rt:40:9
 returns-2 : tie.Need-returns-2
 returns-2 c =
     let n = le-leb _ 20 (c .before .if1 .left) in
     let s = lt-leb _ _ (c .if2 .taken) in
     (simp (n, s), simp (n, s))
 
--- src/keys.rt:43:9
 returns-3 : tie.Need-returns-3
 returns-3 c =
     let n = le-leb _ 20 (c .before .before .if1 .left) in
@@ -29,19 +22,15 @@ returns-3 c =
     let k = ne-eqb _ 20 (c .if3 .taken) in
     (simp (n, s, k), simp (n, s, k))
 
--- src/keys.rt:45:9
 from-exponents-requires : tie.Need-from-exponents-requires
 from-exponents-requires c κs = search needs
 
--- src/keys.rt:46:5
 store-requires : tie.Need-store-requires
 store-requires c κs = search needs
 
--- src/keys.rt:31:1
 same-length : tie.Need-same-length
 same-length c = search needs
 
--- src/keys.rt:31:1
 returns-4 : tie.Need-returns-4
 returns-4 c =
     let e = c .before .before .before .before .before in

@@ -5,33 +5,22 @@ use Rattle.meaning.specs.Leaves.{largestReply}
 use borrow.Author.Tests.{eq-eqb, ne-eqb, le-leb, lt-leb}
 use Rattle.cobra.proofs.keys.cobra_key_max_degree.Statement.{statement}
 use Rattle.cobra.proofs.keys.cobra_key_max_degree.Tie as tie
-use Rattle.cobra.proofs.keys.cobra_key_max_degree.Reads as reads
-use Rattle.cobra.proofs.keys.cobra_key_max_degree.Lts as lts
-use Rattle.answers.proofs.deliver.Reads as deliver-reads
-use Rattle.cobra.proofs.keys.key_of.Reads as key-of-reads
-use Rattle.mono.proofs.MonomialKey.max_degree.Reads as max-degree-reads
 
--- src/keys.rt:126:9
 returns : tie.Need-returns
 returns c = simp (lt-leb _ 20 (c .if1 .taken))
 
--- src/keys.rt:130:9
 returns-2 : tie.Need-returns-2
 returns-2 c = simp (le-leb _ 20 (c .before .if1 .left), ne-eqb _ 20 (c .if2 .taken))
 
--- src/keys.rt:132:22
 key-of-requires : tie.Need-key-of-requires
 key-of-requires c κs = search needs
 
--- src/keys.rt:132:22
 max-degree-requires : tie.Need-max-degree-requires
 max-degree-requires c κs = search needs
 
--- src/keys.rt:132:5
 deliver-requires : tie.Need-deliver-requires
 deliver-requires c κs = search needs
 
--- src/keys.rt:120:1
 returns-3 : tie.Need-returns-3
 returns-3 c =
     let e = c .before .before .before .before in

@@ -9,24 +9,16 @@ use mathlib.Core.Path.{_∙_, ap}
 use borrow.Author.Tests.{eq-eqb, ne-eqb, le-leb, lt-leb}
 use Rattle.cobra.proofs.keys.cobra_key_to_exponents.Statement.{statement}
 use Rattle.cobra.proofs.keys.cobra_key_to_exponents.Tie as tie
-use Rattle.cobra.proofs.keys.cobra_key_to_exponents.Reads as reads
-use Rattle.cobra.proofs.keys.cobra_key_to_exponents.Lts as lts
-use Rattle.answers.proofs.outcome_code.Reads as outcome-code-reads
-use Rattle.cobra.proofs.keys.key_of.Reads as key-of-reads
-use Rattle.mono.proofs.MonomialKey.to_exponents.Reads as to-exponents-reads
 
--- src/keys.rt:57:9
 returns : tie.Need-returns
 returns c = (simp (lt-leb _ 20 (c .if1 .taken)), simp (lt-leb _ 20 (c .if1 .taken)))
 
--- src/keys.rt:60:9
 returns-2 : tie.Need-returns-2
 returns-2 c =
     let n = le-leb _ 20 (c .before .if1 .left) in
     let s = lt-leb _ _ (c .if2 .taken) in
     (simp (n, s), simp (n, s))
 
--- src/keys.rt:63:9
 returns-3 : tie.Need-returns-3
 returns-3 c =
     let n = le-leb _ 20 (c .before .before .if1 .left) in
@@ -34,23 +26,18 @@ returns-3 c =
     let k = ne-eqb _ 20 (c .if3 .taken) in
     (simp (n, s, k), simp (n, s, k))
 
--- src/keys.rt:65:27
 key-of-requires : tie.Need-key-of-requires
 key-of-requires c κs = search needs
 
--- src/keys.rt:65:27
 to-exponents-requires : tie.Need-to-exponents-requires
 to-exponents-requires c κs = search needs
 
--- src/keys.rt:65:5
 outcome-code-requires : tie.Need-outcome-code-requires
 outcome-code-requires c κs = search needs
 
--- src/keys.rt:51:1
 same-length : tie.Need-same-length
 same-length c = search needs
 
--- src/keys.rt:51:1
 returns-4 : tie.Need-returns-4
 returns-4 c =
     let e = c .before .before .before .before .before .before in

@@ -6,33 +6,22 @@ use Rattle.meaning.specs.Leaves.{weightReply}
 use borrow.Author.Tests.{eq-eqb, ne-eqb, le-leb, lt-leb}
 use Rattle.cobra.proofs.keys.cobra_key_v2_factorial_weight.Statement.{statement}
 use Rattle.cobra.proofs.keys.cobra_key_v2_factorial_weight.Tie as tie
-use Rattle.cobra.proofs.keys.cobra_key_v2_factorial_weight.Reads as reads
-use Rattle.cobra.proofs.keys.cobra_key_v2_factorial_weight.Lts as lts
-use Rattle.answers.proofs.deliver.Reads as deliver-reads
-use Rattle.cobra.proofs.keys.key_of.Reads as key-of-reads
-use Rattle.mono.proofs.MonomialKey.v2_factorial_weight.Reads as v2-factorial-weight-reads
 
--- src/keys.rt:142:9
 returns : tie.Need-returns
 returns c = simp (lt-leb _ 20 (c .if1 .taken))
 
--- src/keys.rt:146:9
 returns-2 : tie.Need-returns-2
 returns-2 c = simp (le-leb _ 20 (c .before .if1 .left), ne-eqb _ 20 (c .if2 .taken))
 
--- src/keys.rt:148:22
 key-of-requires : tie.Need-key-of-requires
 key-of-requires c κs = search needs
 
--- src/keys.rt:148:22
 v2-factorial-weight-requires : tie.Need-v2-factorial-weight-requires
 v2-factorial-weight-requires c κs = search needs
 
--- src/keys.rt:148:5
 deliver-requires : tie.Need-deliver-requires
 deliver-requires c κs = search needs
 
--- src/keys.rt:136:1
 returns-3 : tie.Need-returns-3
 returns-3 c =
     let e = c .before .before .before .before in

@@ -8,40 +8,28 @@ use mathlib.Core.Path.{_∙_, ap}
 use borrow.Author.Tests.{eq-eqb, ne-eqb, lt-ltb, le-ltb}
 use Rattle.cobra.proofs.keys.cobra_key_with_exponent.Statement.{statement}
 use Rattle.cobra.proofs.keys.cobra_key_with_exponent.Tie as tie
-use Rattle.cobra.proofs.keys.cobra_key_with_exponent.Reads as reads
-use Rattle.cobra.proofs.keys.cobra_key_with_exponent.Lts as lts
-use Rattle.cobra.proofs.keys.key_of.Reads as key-of-reads
-use Rattle.cobra.proofs.keys.store.Reads as store-reads
-use Rattle.mono.proofs.MonomialKey.with_exponent.Reads as with-exponent-reads
 
--- src/keys.rt:93:9
 returns : tie.Need-returns
 returns c = (simp (le-ltb _ 20 (c .if1 .taken)), simp (le-ltb _ 20 (c .if1 .taken)))
 
--- src/keys.rt:96:9
 returns-2 : tie.Need-returns-2
 returns-2 c =
     let n = lt-ltb _ 20 (c .before .if1 .left) in
     let k = ne-eqb _ 20 (c .if2 .taken) in
     (simp (n, k), simp (n, k))
 
--- src/keys.rt:98:19
 key-of-requires : tie.Need-key-of-requires
 key-of-requires c κs = search needs
 
--- src/keys.rt:98:9
 with-exponent-requires : tie.Need-with-exponent-requires
 with-exponent-requires c κs = search needs
 
--- src/keys.rt:99:5
 store-requires : tie.Need-store-requires
 store-requires c κs = search needs
 
--- src/keys.rt:87:1
 same-length : tie.Need-same-length
 same-length c = search needs
 
--- src/keys.rt:87:1
 returns-3 : tie.Need-returns-3
 returns-3 c =
     let e = c .before .before .before .before .before .before .before in

@@ -7,19 +7,13 @@ use Rattle.cobra.proofs.Whole.{stored-whole}
 use mathlib.Core.Path.{_∙_}
 use Rattle.cobra.proofs.keys.store.Statement.{statement}
 use Rattle.cobra.proofs.keys.store.Tie as tie
-use Rattle.cobra.proofs.keys.store.Reads as reads
-use Rattle.cobra.proofs.keys.store.Lts as lts
-use Rattle.mono.proofs.MonomialKey.to_exponents.Reads as to-exponents-reads
 
--- src/keys.rt:27:5
 to-exponents-requires : tie.Need-to-exponents-requires
 to-exponents-requires c κs = search needs
 
--- src/keys.rt:23:1
 same-length : tie.Need-same-length
 same-length c = search needs
 
--- src/keys.rt:23:1
 returns : tie.Need-returns
 returns c =
     let b = c .before .before .before .before .before in

@@ -2,20 +2,13 @@
 use borrow.Author.Needs.{needs}
 use Rattle.cobra.proofs.leaves.cobra_odd_part_factorial.Statement.{statement}
 use Rattle.cobra.proofs.leaves.cobra_odd_part_factorial.Tie as tie
-use Rattle.cobra.proofs.leaves.cobra_odd_part_factorial.Reads as reads
-use Rattle.cobra.proofs.leaves.cobra_odd_part_factorial.Lts as lts
-use Rattle.answers.proofs.deliver.Reads as deliver-reads
-use Rattle.math_utils.proofs.odd_part_factorial.Reads as odd-part-factorial-reads
 
--- src/leaves.rt:39:22
 odd-part-factorial-requires : tie.Need-odd-part-factorial-requires
 odd-part-factorial-requires c κs = search needs
 
--- src/leaves.rt:39:5
 deliver-requires : tie.Need-deliver-requires
 deliver-requires c κs = search needs
 
--- src/leaves.rt:35:1
 returns : tie.Need-returns
 returns c = cc
 

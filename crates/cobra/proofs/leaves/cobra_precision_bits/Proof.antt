@@ -4,27 +4,19 @@ use mathlib.Core.Path.{sym, _∙_, ap}
 use Rattle.math_utils.specs.Precision.{bitsOf}
 use Rattle.cobra.proofs.leaves.cobra_precision_bits.Statement.{statement}
 use Rattle.cobra.proofs.leaves.cobra_precision_bits.Tie as tie
-use Rattle.cobra.proofs.leaves.cobra_precision_bits.Reads as reads
-use Rattle.cobra.proofs.leaves.cobra_precision_bits.Lts as lts
-use Rattle.math_utils.proofs.precision_bits.Reads as precision-bits-reads
 
--- src/leaves.rt:22:11
 precision-bits-requires : tie.Need-precision-bits-requires
 precision-bits-requires c κs = search needs
 
--- src/leaves.rt:23:25
 enum-known-bits : tie.Need-enum-known-bits
 enum-known-bits c = search needs
 
--- src/leaves.rt:24:31
 enum-told : tie.Need-enum-told
 enum-told c = search needs
 
--- src/leaves.rt:18:1
 returns : tie.Need-returns
 returns c = ap bitsOf (sym (c .before .bits .given .1) ∙ c .before .before .before .precision-bits .ensures)
 
--- src/leaves.rt:18:1
 returns-2 : tie.Need-returns-2
 returns-2 c = ap bitsOf (sym (c .enum-told .given .1) ∙ c .before .before .precision-bits .ensures)
 

@@ -13,33 +13,25 @@ use Rattle.math_utils.proofs.Entries.{table-entries}
 use Rattle.theory.specs.Ranges.{between-true, between-low, between-high}
 use Rattle.math_utils.proofs.stirling.build.Statement.{statement}
 use Rattle.math_utils.proofs.stirling.build.Tie as tie
-use Rattle.math_utils.proofs.stirling.build.Reads as reads
-use Rattle.math_utils.proofs.stirling.build.Lts as lts
-use Rattle.math_utils.proofs.stirling.fill.Reads as fill-reads
 
 square : (n : ℕ) → suc n * suc n ≡ (n + 1) * (n + 1)
 square n = ap (λ (x : ℕ). x * x) (sym (add-one n))
 
--- src/stirling.rt:75:9
 returns : tie.Need-returns
 returns c = (simp (between-low 2 64 _ (c .if1 .taken)), simp (between-low 2 64 _ (c .if1 .taken)))
 
--- src/stirling.rt:78:9
 returns-2 : tie.Need-returns-2
 returns-2 c = (simp (between-high 2 64 _ (c .if2 .taken)), simp (between-high 2 64 _ (c .if2 .taken)))
 
--- src/stirling.rt:80:16
 add-side : tie.Need-add-side
 add-side c = search needs
 
--- src/stirling.rt:81:22
 mul-if3 : tie.Need-mul-if3
 mul-if3 c =
     let n = c .before .before .before .args .max-degree in
     let h : n + 1 < 2 ^ 32 = omega (arith, c .before .before .before .fits .max-degree) in
     record { fits = product-fits 32 h h }
 
--- src/stirling.rt:82:9
 returns-3 : tie.Need-returns-3
 returns-3 c =
     let k = c .before .before .before .before .args in
@@ -47,15 +39,12 @@ returns-3 c =
     let s = ne-eqb (length (now (k .lent))) (suc (k .max-degree) * suc (k .max-degree)) (λ e. c .if3 .taken (e ∙ square (k .max-degree))) in
     (simp (w, s), simp (w, s))
 
--- src/stirling.rt:84:5
 fill-requires : tie.Need-fill-requires
 fill-requires c κs = search needs
 
--- src/stirling.rt:70:1
 same-length : tie.Need-same-length
 same-length c = search needs
 
--- src/stirling.rt:70:1
 returns-4 : tie.Need-returns-4
 returns-4 c =
     let b = c .before .before .before .before .before .before .before .before in

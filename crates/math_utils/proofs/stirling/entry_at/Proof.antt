@@ -8,71 +8,54 @@ use Rattle.math_utils.proofs.Entries.{entry-corner, entry-left, entry-t
 use native.Mathlib.Omega.{arith}
 use Rattle.math_utils.proofs.stirling.entry_at.Statement.{statement}
 use Rattle.math_utils.proofs.stirling.entry_at.Tie as tie
-use Rattle.math_utils.proofs.stirling.entry_at.Reads as reads
-use Rattle.math_utils.proofs.stirling.entry_at.Lts as lts
-use Rattle.math_utils.proofs.stirling.next_entry.Reads as next-entry-reads
 
--- src/stirling.rt:36:13
 div-i : tie.Need-div-i
 div-i c = search needs
 
--- src/stirling.rt:37:13
 rem-j : tie.Need-rem-j
 rem-j c = search needs
 
--- src/stirling.rt:40:13
 returns : tie.Need-returns
 returns c =
     let k = c .before .before .before .args in
     entry-corner (k .kind) (k .bitwidth) (k .side) (k .cell) (c .before .before .before .pre .1 .0) (c .if2 .taken) (c .before .if1 .taken)
 
--- src/stirling.rt:42:9
 returns-2 : tie.Need-returns-2
 returns-2 c =
     let k = c .before .before .before .args in
     entry-left (k .kind) (k .bitwidth) (k .side) (k .cell) (c .if2 .left) (c .before .if1 .taken)
 
--- src/stirling.rt:45:9
 returns-3 : tie.Need-returns-3
 returns-3 c =
     let k = c .before .before .before .args in
     entry-top (k .kind) (k .bitwidth) (k .side) (k .cell) (c .if3 .taken) (c .before .if1 .left)
 
--- src/stirling.rt:51:15
 sub-next-entry : tie.Need-sub-next-entry
 sub-next-entry c = let k = c .before .before .before .args in row-before (k .kind) (k .bitwidth) (k .side) (k .cell) (c .if3 .left)
 
--- src/stirling.rt:51:9
 mul-next-entry : tie.Need-mul-next-entry
 mul-next-entry c = search needs
 
--- src/stirling.rt:51:9
 shared-slice-read-next-entry : tie.Need-shared-slice-read-next-entry
 shared-slice-read-next-entry c = search needs
 
--- src/stirling.rt:52:15
 sub-next-entry-2 : tie.Need-sub-next-entry-2
 sub-next-entry-2 c = let k = c .before .before .before .before .args in row-before (k .kind) (k .bitwidth) (k .side) (k .cell) (c .before .if3 .left)
 
--- src/stirling.rt:52:15
 sub-next-entry-3 : tie.Need-sub-next-entry-3
 sub-next-entry-3 c =
     let k = c .before .before .before .before .args in
     before-first (k .kind) (k .bitwidth) (k .side) (k .cell) (c .before .if3 .left) (c .before .before .if1 .left)
 
--- src/stirling.rt:52:9
 mul-next-entry-2 : tie.Need-mul-next-entry-2
 mul-next-entry-2 c = search needs
 
--- src/stirling.rt:52:9
 shared-slice-read-next-entry-2 : tie.Need-shared-slice-read-next-entry-2
 shared-slice-read-next-entry-2 c = search needs
 
--- src/stirling.rt:47:5
 next-entry-requires : tie.Need-next-entry-requires
 next-entry-requires c κs = search needs
 
--- src/stirling.rt:30:1
 returns-4 : tie.Need-returns-4
 returns-4 c =
     let b = c .before .before .before .before .before .before in

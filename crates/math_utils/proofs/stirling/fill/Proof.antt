@@ -8,9 +8,6 @@ use lib.ListN.{length}
 use Rattle.theory.specs.Tables.{Filled, filled-start, filled-step, filled-done}
 use Rattle.math_utils.specs.Kinds.{entry}
 use Rattle.math_utils.proofs.stirling.fill.Tie as tie
-use Rattle.math_utils.proofs.stirling.fill.Reads as reads
-use Rattle.math_utils.proofs.stirling.fill.Lts as lts
-use Rattle.math_utils.proofs.stirling.entry_at.Reads as entry-at-reads
 
 abbrev Inv-loop : tie.InvT-loop
 Inv-loop kind table₀ side bitwidth cell₀ table cell = Filled (entry kind bitwidth side) table₀ table cell × (cell ≤ length table)
@@ -18,33 +15,26 @@ Inv-loop kind table₀ side bitwidth cell₀ table cell = Filled (entry kind bit
 abbrev μ-loop : tie.MeasureT-loop
 μ-loop kind table₀ side bitwidth cell₀ table cell = length table - cell
 
--- src/stirling.rt:63:5
 loop-holds : tie.Need-loop-holds Inv-loop μ-loop
 loop-holds c = (filled-start _ _, zero-le)
 
--- src/stirling.rt:64:23
 entry-at-requires : tie.Need-entry-at-requires Inv-loop μ-loop
 entry-at-requires c κs =
     let b = c .before .before .before .before in
     ((b .pre .0, c .before .loop-test .taken, b .pre .2), (b .pre .1, c .before .before .loop .inv .0 .below))
 
--- src/stirling.rt:64:9
 mul-table : tie.Need-mul-table Inv-loop μ-loop
 mul-table c = search needs
 
--- src/stirling.rt:64:9
 slice-write-table : tie.Need-slice-write-table Inv-loop μ-loop
 slice-write-table c = search needs
 
--- src/stirling.rt:65:9
 add-cell : tie.Need-add-cell Inv-loop μ-loop
 add-cell c = search needs
 
--- src/stirling.rt:63:5
 loop-less : tie.Need-loop-less Inv-loop μ-loop
 loop-less c = simp length-set (omega arith)
 
--- src/stirling.rt:63:5
 loop-again : tie.Need-loop-again Inv-loop μ-loop
 loop-again c =
     let b = c .before .before .before in (
@@ -52,11 +42,9 @@ loop-again c =
       simp length-set (omega arith),
     )
 
--- src/stirling.rt:58:1
 same-length : tie.Need-same-length Inv-loop μ-loop
 same-length c = c .before .loop .inv .0 .same
 
--- src/stirling.rt:58:1
 returns : tie.Need-returns Inv-loop μ-loop
 returns c = filled-done _ _ (c .before .loop .table) (c .before .loop .cell) (c .before .loop .inv .0) (omega (arith, c .before .loop .inv .0 .same))
 

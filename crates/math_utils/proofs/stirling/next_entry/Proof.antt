@@ -3,45 +3,31 @@ use borrow.Author.Needs.{needs}
 use native.Mathlib.Nat.{min-eq-left}
 use Rattle.math_utils.proofs.stirling.next_entry.Statement.{statement}
 use Rattle.math_utils.proofs.stirling.next_entry.Tie as tie
-use Rattle.math_utils.proofs.stirling.next_entry.Reads as reads
-use Rattle.math_utils.proofs.stirling.next_entry.Lts as lts
-use Rattle.arith.proofs.mod_add.Reads as mod-add-reads
-use Rattle.arith.proofs.mod_mul.Reads as mod-mul-reads
-use Rattle.arith.proofs.mod_sub.Reads as mod-sub-reads
 
--- src/stirling.rt:24:62
 enum-told : tie.Need-enum-told
 enum-told c = search needs
 
--- src/stirling.rt:24:62
 sub-mod-mul : tie.Need-sub-mod-mul
 sub-mod-mul c = search needs
 
--- src/stirling.rt:24:47
 mod-mul-requires : tie.Need-mod-mul-requires
 mod-mul-requires c κs = search needs
 
--- src/stirling.rt:24:26
 mod-sub-requires : tie.Need-mod-sub-requires
 mod-sub-requires c κs = search needs
 
--- src/stirling.rt:25:42
 enum-told-2 : tie.Need-enum-told-2
 enum-told-2 c = search needs
 
--- src/stirling.rt:25:42
 mod-mul-requires-2 : tie.Need-mod-mul-requires-2
 mod-mul-requires-2 c κs = search needs
 
--- src/stirling.rt:25:27
 mod-add-requires : tie.Need-mod-add-requires
 mod-add-requires c κs = search needs
 
--- src/stirling.rt:19:1
 returns : tie.Need-returns
 returns c = cc (min-eq-left (c .before .before .before .before .pre .1))
 
--- src/stirling.rt:19:1
 returns-2 : tie.Need-returns-2
 returns-2 c = cc (min-eq-left (c .before .before .before .before .pre .1))
 

@@ -4,10 +4,7 @@ use Rattle.theory.specs.Tables.{eq-tabulate-of-test}
 use Rattle.meaning.specs.Factorials.{factorial, twosIn, twos, oddPart}
 use Rattle.meaning.specs.Inverses.{lifted, inverse}
 use Rattle.math_utils.proofs.tables.odd_factorial_inverses.Tie as tie
-use Rattle.math_utils.proofs.tables.odd_factorial_inverses.Reads as reads
-use Rattle.math_utils.proofs.tables.odd_factorial_inverses.Lts as lts
 
--- src/tables.rt:150:1
 returns : tie.Need-returns
 unfolding factorial twosIn twos oddPart lifted inverse
 returns c = eq-tabulate-of-test _ _ tt

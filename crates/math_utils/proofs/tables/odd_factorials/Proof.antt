@@ -3,10 +3,7 @@ use Rattle.math_utils.proofs.tables.odd_factorials.Statement.{statement
 use Rattle.theory.specs.Tables.{eq-tabulate-of-test}
 use Rattle.meaning.specs.Factorials.{factorial, twosIn, twos, oddPart}
 use Rattle.math_utils.proofs.tables.odd_factorials.Tie as tie
-use Rattle.math_utils.proofs.tables.odd_factorials.Reads as reads
-use Rattle.math_utils.proofs.tables.odd_factorials.Lts as lts
 
--- src/tables.rt:143:1
 returns : tie.Need-returns
 unfolding factorial twosIn twos oddPart
 returns c = eq-tabulate-of-test _ _ tt

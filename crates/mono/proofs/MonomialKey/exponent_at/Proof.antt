@@ -4,22 +4,16 @@ use borrow.Author.Tests.{lt-ltb, le-ltb}
 use mathlib.Core.Path.{refl}
 use Rattle.mono.proofs.MonomialKey.exponent_at.Statement.{statement}
 use Rattle.mono.proofs.MonomialKey.exponent_at.Tie as tie
-use Rattle.mono.proofs.MonomialKey.exponent_at.Reads as reads
-use Rattle.mono.proofs.MonomialKey.exponent_at.Lts as lts
 
--- src/lib.rt:175:13
 returns : tie.Need-returns
 returns c = (simp (le-ltb _ 20 (c .if1 .taken)), refl)
 
--- src/lib.rt:180:24
 element-copy-out-exponent : tie.Need-element-copy-out-exponent
 element-copy-out-exponent c = search needs
 
--- src/lib.rt:182:35
 cast-t13 : tie.Need-cast-t13
 cast-t13 c = search needs
 
--- src/lib.rt:169:5
 returns-2 : tie.Need-returns-2
 returns-2 c = (simp (lt-ltb _ 20 (c .before .if1 .left)), refl)
 

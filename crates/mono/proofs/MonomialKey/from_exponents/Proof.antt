@@ -3,35 +3,25 @@ use borrow.Author.Needs.{needs}
 use borrow.Author.Tests.{le-leb, lt-leb}
 use Rattle.mono.proofs.MonomialKey.from_exponents.Statement.{statement}
 use Rattle.mono.proofs.MonomialKey.from_exponents.Tie as tie
-use Rattle.mono.proofs.MonomialKey.from_exponents.Reads as reads
-use Rattle.mono.proofs.MonomialKey.from_exponents.Lts as lts
-use Rattle.mono.proofs.MonomialKey.zero.Reads as zero-reads
-use Rattle.mono.proofs.padded.Reads as padded-reads
 
--- src/lib.rt:133:22
 zero-requires : tie.Need-zero-requires
 zero-requires c κs = search needs
 
--- src/lib.rt:131:13
 returns : tie.Need-returns
 returns c = (simp (lt-leb _ 20 (c .before .if1 .taken)), simp (lt-leb _ 20 (c .before .if1 .taken)) (c .zero .ensures))
 
--- src/lib.rt:139:22
 zero-requires-2 : tie.Need-zero-requires-2
 zero-requires-2 c κs = search needs
 
--- src/lib.rt:137:13
 returns-2 : tie.Need-returns-2
 returns-2 c =
     let n = le-leb _ 20 (c .before .before .if1 .left) in
     let s = lt-leb _ _ (c .before .if2 .taken) in
     (simp (n, s), simp (n, s) (c .zero2 .ensures))
 
--- src/lib.rt:145:28
 padded-requires : tie.Need-padded-requires
 padded-requires c κs = search needs
 
--- src/lib.rt:125:5
 returns-3 : tie.Need-returns-3
 returns-3 c =
     let n = le-leb _ 20 (c .before .before .if1 .left) in

@@ -5,23 +5,16 @@ use mathlib.Core.Path.{ap}
 use Rattle.meaning.specs.Replies.{accepted}
 use Rattle.mono.proofs.MonomialKey.max_degree.Statement.{statement}
 use Rattle.mono.proofs.MonomialKey.max_degree.Tie as tie
-use Rattle.mono.proofs.MonomialKey.max_degree.Reads as reads
-use Rattle.mono.proofs.MonomialKey.max_degree.Lts as lts
-use Rattle.mono.proofs.exponent_max.Reads as exponent-max-reads
 
--- src/lib.rt:224:13
 returns : tie.Need-returns
 returns c = simp (lt-leb _ 20 (c .if1 .taken))
 
--- src/lib.rt:227:23
 exponent-max-requires : tie.Need-exponent-max-requires
 exponent-max-requires c κs = search needs
 
--- src/lib.rt:227:23
 cast-t8 : tie.Need-cast-t8
 cast-t8 c = search needs
 
--- src/lib.rt:219:5
 returns-2 : tie.Need-returns-2
 returns-2 c = simp (le-leb _ 20 (c .before .before .if1 .left)) (ap accepted (c .exponent-max .ensures))
 

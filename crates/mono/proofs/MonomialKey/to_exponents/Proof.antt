@@ -3,30 +3,22 @@ use borrow.Author.Needs.{needs}
 use borrow.Author.Tests.{le-leb, lt-leb}
 use Rattle.mono.proofs.MonomialKey.to_exponents.Statement.{statement}
 use Rattle.mono.proofs.MonomialKey.to_exponents.Tie as tie
-use Rattle.mono.proofs.MonomialKey.to_exponents.Reads as reads
-use Rattle.mono.proofs.MonomialKey.to_exponents.Lts as lts
-use Rattle.mono.proofs.copy_out.Reads as copy-out-reads
 
--- src/lib.rt:158:13
 returns : tie.Need-returns
 returns c = (simp (lt-leb _ 20 (c .if1 .taken)), simp (lt-leb _ 20 (c .if1 .taken)))
 
--- src/lib.rt:161:13
 returns-2 : tie.Need-returns-2
 returns-2 c =
     let n = le-leb _ 20 (c .before .if1 .left) in
     let s = lt-leb _ _ (c .if2 .taken) in
     (simp (n, s), simp (n, s))
 
--- src/lib.rt:164:9
 copy-out-requires : tie.Need-copy-out-requires
 copy-out-requires c κs = search needs
 
--- src/lib.rt:152:5
 same-length : tie.Need-same-length
 same-length c = search needs
 
--- src/lib.rt:152:5
 returns-3 : tie.Need-returns-3
 returns-3 c =
     let n = le-leb _ 20 (c .before .before .before .before .before .before .if1 .left) in

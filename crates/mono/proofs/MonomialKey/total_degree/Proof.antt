@@ -5,23 +5,16 @@ use mathlib.Core.Path.{ap}
 use Rattle.meaning.specs.Replies.{accepted}
 use Rattle.mono.proofs.MonomialKey.total_degree.Statement.{statement}
 use Rattle.mono.proofs.MonomialKey.total_degree.Tie as tie
-use Rattle.mono.proofs.MonomialKey.total_degree.Reads as reads
-use Rattle.mono.proofs.MonomialKey.total_degree.Lts as lts
-use Rattle.mono.proofs.exponent_sum.Reads as exponent-sum-reads
 
--- src/lib.rt:212:13
 returns : tie.Need-returns
 returns c = simp (lt-leb _ 20 (c .if1 .taken))
 
--- src/lib.rt:215:23
 exponent-sum-requires : tie.Need-exponent-sum-requires
 exponent-sum-requires c κs = search needs
 
--- src/lib.rt:215:23
 cast-t8 : tie.Need-cast-t8
 cast-t8 c = search needs
 
--- src/lib.rt:207:5
 returns-2 : tie.Need-returns-2
 returns-2 c = simp (le-leb _ 20 (c .before .before .if1 .left)) (ap accepted (c .exponent-sum .ensures))
 

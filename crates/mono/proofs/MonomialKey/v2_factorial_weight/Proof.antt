@@ -5,23 +5,16 @@ use mathlib.Core.Path.{ap}
 use Rattle.meaning.specs.Replies.{accepted}
 use Rattle.mono.proofs.MonomialKey.v2_factorial_weight.Statement.{statement}
 use Rattle.mono.proofs.MonomialKey.v2_factorial_weight.Tie as tie
-use Rattle.mono.proofs.MonomialKey.v2_factorial_weight.Reads as reads
-use Rattle.mono.proofs.MonomialKey.v2_factorial_weight.Lts as lts
-use Rattle.mono.proofs.factorial_twos.Reads as factorial-twos-reads
 
--- src/lib.rt:236:13
 returns : tie.Need-returns
 returns c = simp (lt-leb _ 20 (c .if1 .taken))
 
--- src/lib.rt:239:23
 factorial-twos-requires : tie.Need-factorial-twos-requires
 factorial-twos-requires c κs = search needs
 
--- src/lib.rt:239:23
 cast-t8 : tie.Need-cast-t8
 cast-t8 c = search needs
 
--- src/lib.rt:231:5
 returns-2 : tie.Need-returns-2
 returns-2 c = simp (le-leb _ 20 (c .before .before .if1 .left)) (ap accepted (c .factorial-twos .ensures))
 

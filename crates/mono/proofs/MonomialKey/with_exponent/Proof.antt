@@ -3,18 +3,13 @@ use borrow.Author.Needs.{needs}
 use borrow.Author.Tests.{lt-ltb, le-ltb}
 use Rattle.mono.proofs.MonomialKey.with_exponent.Statement.{statement}
 use Rattle.mono.proofs.MonomialKey.with_exponent.Tie as tie
-use Rattle.mono.proofs.MonomialKey.with_exponent.Reads as reads
-use Rattle.mono.proofs.MonomialKey.with_exponent.Lts as lts
 
--- src/lib.rt:194:13
 returns : tie.Need-returns
 returns c = (simp (le-ltb _ 20 (c .if1 .taken)), simp (le-ltb _ 20 (c .if1 .taken)))
 
--- src/lib.rt:199:9
 element-write-self : tie.Need-element-write-self
 element-write-self c = search needs
 
--- src/lib.rt:188:5
 returns-2 : tie.Need-returns-2
 returns-2 c = (simp (lt-ltb _ 20 (c .if1 .left)), simp (lt-ltb _ 20 (c .if1 .left)))
 

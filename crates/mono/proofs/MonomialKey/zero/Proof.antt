@@ -3,10 +3,7 @@ use Rattle.mono.proofs.MonomialKey.zero.Statement.{statement}
 use mathlib.Core.Path.{refl}
 use Rattle.meaning.specs.Tables.{tabulate}
 use Rattle.mono.proofs.MonomialKey.zero.Tie as tie
-use Rattle.mono.proofs.MonomialKey.zero.Reads as reads
-use Rattle.mono.proofs.MonomialKey.zero.Lts as lts
 
--- src/lib.rt:116:5
 returns : tie.Need-returns
 unfolding tabulate
 returns c = refl

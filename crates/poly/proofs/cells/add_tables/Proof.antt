@@ -7,9 +7,6 @@ use lib.ListN.{length, length-set}
 use Rattle.meaning.specs.Tables.{at}
 use Rattle.theory.specs.Tables.{Filled, filled-start, filled-step, filled-done}
 use Rattle.poly.proofs.cells.add_tables.Tie as tie
-use Rattle.poly.proofs.cells.add_tables.Reads as reads
-use Rattle.poly.proofs.cells.add_tables.Lts as lts
-use Rattle.std.proofs.num.wrapping_add_u64.Reads as wrapping-add-u64-reads
 
 abbrev Inv-loop : tie.InvT-loop
 Inv-loop a b out₀ i₀ out i = Filled (λ n. (at a n + at b n) % 2 ^ 64) out₀ out i
@@ -17,58 +14,45 @@ Inv-loop a b out₀ i₀ out i = Filled (λ n. (at a n + at b n) % 2 ^ 64) out�
 abbrev μ-loop : tie.MeasureT-loop
 μ-loop a b out₀ i₀ out i = length out - i
 
--- src/cells.rt:110:5
 loop-holds : tie.Need-loop-holds Inv-loop μ-loop
 loop-holds c = filled-start _ _
 
--- src/cells.rt:111:45
 mul-wrapping-add-u64 : tie.Need-mul-wrapping-add-u64 Inv-loop μ-loop
 mul-wrapping-add-u64 c = search needs
 
--- src/cells.rt:111:45
 shared-slice-read-wrapping-add-u64 : tie.Need-shared-slice-read-wrapping-add-u64 Inv-loop μ-loop
 shared-slice-read-wrapping-add-u64 c = omega (arith, c .before .before .loop .inv .same)
 
--- src/cells.rt:111:51
 mul-wrapping-add-u64-2 : tie.Need-mul-wrapping-add-u64-2 Inv-loop μ-loop
 mul-wrapping-add-u64-2 c = search needs
 
--- src/cells.rt:111:51
 shared-slice-read-wrapping-add-u64-2 :
     tie.Need-shared-slice-read-wrapping-add-u64-2 Inv-loop μ-loop
 shared-slice-read-wrapping-add-u64-2 c = omega (arith, c .before .before .before .loop .inv .same)
 
--- src/cells.rt:111:18
 wrapping-add-u64-requires : tie.Need-wrapping-add-u64-requires Inv-loop μ-loop
 wrapping-add-u64-requires c κs = search needs
 
--- src/cells.rt:111:9
 mul-out : tie.Need-mul-out Inv-loop μ-loop
 mul-out c = search needs
 
--- src/cells.rt:111:9
 slice-write-out : tie.Need-slice-write-out Inv-loop μ-loop
 slice-write-out c = search needs
 
--- src/cells.rt:112:9
 add-i : tie.Need-add-i Inv-loop μ-loop
 add-i c = search needs
 
--- src/cells.rt:110:5
 loop-less : tie.Need-loop-less Inv-loop μ-loop
 loop-less c = simp length-set (omega arith)
 
--- src/cells.rt:110:5
 loop-again : tie.Need-loop-again Inv-loop μ-loop
 loop-again c =
     let b = c .before .before .before .before in
     filled-step _ _ (b .loop .out) (b .loop .i) _ (b .loop .inv) (c .before .before .before .loop-test .taken) (c .wrapping-add-u64 .ensures)
 
--- src/cells.rt:105:1
 same-length : tie.Need-same-length Inv-loop μ-loop
 same-length c = c .before .loop .inv .same
 
--- src/cells.rt:105:1
 returns : tie.Need-returns Inv-loop μ-loop
 returns c = let b = c .before in filled-done _ _ (b .loop .out) (b .loop .i) (b .loop .inv) (omega (arith, b .loop .inv .same))
 

@@ -8,24 +8,16 @@ use Rattle.meaning.specs.Values.{bound, boxReduced}
 use Rattle.theory.specs.BoxBounds.{reduced-sums}
 use Rattle.poly.proofs.cells.box_sum.Statement.{statement}
 use Rattle.poly.proofs.cells.box_sum.Tie as tie
-use Rattle.poly.proofs.cells.box_sum.Reads as reads
-use Rattle.poly.proofs.cells.box_sum.Lts as lts
-use Rattle.poly.proofs.cells.add_tables.Reads as add-tables-reads
-use Rattle.poly.proofs.cells.reduce_box.Reads as reduce-box-reads
 
--- src/cells.rt:122:5
 add-tables-requires : tie.Need-add-tables-requires
 add-tables-requires c κs = search needs
 
--- src/cells.rt:123:5
 reduce-box-requires : tie.Need-reduce-box-requires
 reduce-box-requires c κs = search needs
 
--- src/cells.rt:117:1
 same-length : tie.Need-same-length
 same-length c = search needs
 
--- src/cells.rt:117:1
 returns : tie.Need-returns
 returns c =
     let x = c .before .before in

@@ -3,30 +3,22 @@ use borrow.Author.Needs.{needs}
 use borrow.Author.Tests.{lt-ltb, le-ltb}
 use Rattle.replay_text.proofs.Line.closed.Statement.{statement}
 use Rattle.replay_text.proofs.Line.closed.Tie as tie
-use Rattle.replay_text.proofs.Line.closed.Reads as reads
-use Rattle.replay_text.proofs.Line.closed.Lts as lts
 
--- src/lib.rt:50:17
 mul-numbers : tie.Need-mul-numbers
 mul-numbers c = search needs
 
--- src/lib.rt:50:17
 array-write-numbers : tie.Need-array-write-numbers
 array-write-numbers c = search needs
 
--- src/lib.rt:53:28
 add-t7 : tie.Need-add-t7
 add-t7 c = search needs
 
--- src/lib.rt:51:17
 returns : tie.Need-returns
 returns c = simp (c .before .if1 .taken, lt-ltb _ 128 (c .if2 .taken))
 
--- src/lib.rt:42:5
 returns-2 : tie.Need-returns-2
 returns-2 c = simp (c .before .if1 .taken, le-ltb _ 128 (c .if2 .left))
 
--- src/lib.rt:42:5
 returns-3 : tie.Need-returns-3
 returns-3 c = simp (c .if1 .left)
 

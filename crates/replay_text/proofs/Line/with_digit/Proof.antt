@@ -6,24 +6,16 @@ use Prim.Native.Nat.{ℕ, _+_, _%_, _^_}
 use Rattle.replay_text.specs.declared.Line.{Line}
 use Rattle.replay_text.proofs.Line.with_digit.Statement.{statement}
 use Rattle.replay_text.proofs.Line.with_digit.Tie as tie
-use Rattle.replay_text.proofs.Line.with_digit.Reads as reads
-use Rattle.replay_text.proofs.Line.with_digit.Lts as lts
-use Rattle.arith.proofs.wrapping_mul.Reads as wrapping-mul-reads
-use Rattle.std.proofs.num.wrapping_add_u64.Reads as wrapping-add-u64-reads
 
--- src/lib.rt:32:13
 wrapping-mul-requires : tie.Need-wrapping-mul-requires
 wrapping-mul-requires c κs = search needs
 
--- src/lib.rt:36:56
 cast-wrapping-add-u64 : tie.Need-cast-wrapping-add-u64
 cast-wrapping-add-u64 c = search needs
 
--- src/lib.rt:36:20
 wrapping-add-u64-requires : tie.Need-wrapping-add-u64-requires
 wrapping-add-u64-requires c κs = search needs
 
--- src/lib.rt:27:5
 returns : tie.Need-returns
 returns c =
     let k = c .before .before .before .args in
