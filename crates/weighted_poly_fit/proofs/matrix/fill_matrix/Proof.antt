@@ -1,6 +1,6 @@
 -- The loop fills one row after the other.
 use Rattle.weighted_poly_fit.proofs.matrix.fill_matrix.Statement.{statement}
-use Prim.Native.Nat.{_-_, _+_, _≤_, _<_, _^_}
+use Prim.Native.Nat.{_-_, _+_, _≤_}
 use native.Mathlib.Omega.{arith}
 use native.Mathlib.Nat.{le-of-eq}
 use mathlib.Core.Path.{sym, _∙_, ap}
@@ -18,12 +18,9 @@ Inv-loop matrix₀ weights degrees columns cols size powers₀ point₀ bitwidth
 abbrev μ-loop : tie.MeasureT-loop
 μ-loop matrix₀ weights degrees columns cols size powers₀ point₀ bitwidth from₀ i₀ matrix powers point from i = length weights - i
 
--- the row to be filled lies in the matrix, and its end is a place
+-- the row to be filled lies in the matrix
 inside : (c : tie.In-loop Inv-loop μ-loop) → c .before .loop .from + c .before .before .before .before .before .before .before .before .args .cols ≤ length (c .before .loop .matrix)
 inside c = row-end (c .before .loop .inv) (c .loop-test .taken)
-
-in-memory : (c : tie.In-loop Inv-loop μ-loop) → c .before .loop .from + c .before .before .before .before .before .before .before .before .args .cols < 2 ^ 64
-in-memory c = omega (arith, inside c, c .before .loop .inv .filled .same, c .before .before .before .before .before .before .before .before .good .0 .0)
 
 pub fill-matrix-spec : {M : Type 1} → statement M
 fill-matrix-spec =
@@ -49,8 +46,8 @@ fill-matrix-spec =
     i .powers-same ∙ i .shape .powers-long ∙ ap
     (λ n. n * c .before .before .before .before .before .before .before .before .before .before .before .before .before .before .args .size)
     (sym (c .before .before .before .before .coordinates .kept .0 ∙ i .point-same ∙ i .shape .point-long)))
-    (λ c. in-memory (c .before .before .before .before .before .before .before .before .before))
-    (λ c. in-memory (c .before .before .before .before .before .before .before .before .before))
+    (λ c. let b = c .before .before .before .before .before .before .before .before .before in omega (arith, inside b, b .before .loop .inv .filled .same, b .before .before .before .before .before .before .before .before .good .0 .0))
+    (λ c. let b = c .before .before .before .before .before .before .before .before .before in omega (arith, inside b, b .before .loop .inv .filled .same, b .before .before .before .before .before .before .before .before .good .0 .0))
     (λ c. search needs) (λ c. search needs)
     (λ c. inside (c .before .before .before .before .before .before .before .before .before))
     (λ c. search needs) (λ c. search needs)
