@@ -1,6 +1,7 @@
 -- The laws of the conversions, for either direction.
 use mathlib.Core.Path.{_≡_, ap, _∙_}
-use Prim.Native.Nat.{ℕ, _%_, _^_, _≤_}
+use Prim.Native.Nat.{ℕ, _%_, _^_, _≤_, min}
+use native.Mathlib.Nat.{min-eq-left}
 use mathlib.Core.List.{List}
 use lib.ListN.{length}
 use Rattle.meaning.specs.Tables.{tabulate, at}
@@ -38,8 +39,9 @@ cut-converted direction w ds c h whole =
 
 -- a table copied, converted and cut
 pub box-of-steps : (direction : Direction) (w : ℕ) (ds c : List ℕ) {t u v : List ℕ} → w ≤ 64 → length c ≡ cells ds →
-    t ≡ c → u ≡ converted direction ds t → v ≡ tabulate (length u) (λ i. at u i % 2 ^ w) → v ≡ boxOf direction (2 ^ w) ds c
-box-of-steps direction w ds c h whole first second third =
+    t ≡ c → u ≡ converted direction ds t → v ≡ tabulate (length u) (λ i. at u i % 2 ^ min w 64) → v ≡ boxOf direction (2 ^ w) ds c
+box-of-steps direction w ds c {u = u} h whole first second third =
     third
+    ∙ ap (λ (k : ℕ). tabulate (length u) (λ i. at u i % 2 ^ k)) (min-eq-left h)
     ∙ ap (λ (u : List ℕ). tabulate (length u) (λ i. at u i % 2 ^ w)) (second ∙ ap (converted direction ds) first)
     ∙ cut-converted direction w ds c h whole

@@ -5,9 +5,12 @@ ghost use lib.Dec.{leb, ltb};
 ghost use lib.ListN.{length, set};
 ghost use Rattle.meaning.specs.Leaves.{keyNumber, keyOf, exponentsLeft, exponentReply, degreeReply, largestReply, weightReply};
 ghost use Rattle.meaning.specs.Replies.{told};
+ghost use Rattle.answers.specs.Said.{said};
 ghost use Rattle.cobra.specs.Keys.{twenty, keyed};
+ghost use Rattle.cobra.specs.Measures.{measureReply};
 ghost use Rattle.meaning.specs.Settings.{first};
 ghost use Rattle.meaning.specs.Calls.{left};
+use answers::Number;
 use mono::MonomialKey;
 
 // The key of a table of twenty bytes.
@@ -25,6 +28,38 @@ fn store(key: MonomialKey, table: &mut [u8])
     ensures { λ r. ⌜ now (table .exit) ≡ key .exponents ⌝ }
 {
     key.to_exponents(table, 20);
+}
+
+// What is read of the first exponents of a key: their sum, the largest, the twos in their factorials.
+enum Measure {
+    Total,
+    Largest,
+    Twos,
+}
+
+fn measured(measure: Measure, key: MonomialKey, num_vars: u8) -> Number
+    ensures { λ r. ⌜ said r ≡ measureReply measure «num_vars» (key .exponents) ⌝ }
+{
+    match measure {
+        Measure::Total => key.total_degree(num_vars),
+        Measure::Largest => key.max_degree(num_vars),
+        Measure::Twos => key.v2_factorial_weight(num_vars),
+    }
+}
+
+// A measure of the first num_vars exponents of a table's key.
+fn measure_table(measure: Measure, key: &[u8], num_vars: u8, value: &mut u64) -> u32
+    ensures { λ r. ⌜ told r (now (value .exit)) ≡ keyed (leb «num_vars» 20) (now (key .entry)) (measureReply measure «num_vars» (now (key .entry))) ⌝ }
+{
+    if 20 < num_vars {
+        *value = 0;
+        return 11;
+    }
+    if key.len() != 20 {
+        *value = 0;
+        return 9;
+    }
+    answers::deliver(measured(measure, key_of(key), num_vars), value)
 }
 
 // The key of the first num_vars exponents is written to `key`, which is left as it was beside a refusal.
@@ -105,15 +140,7 @@ pub extern "C" fn cobra_key_with_exponent(key: &mut [u8], var_index: u8, new_val
 pub extern "C" fn cobra_key_total_degree(key: &[u8], num_vars: u8, value: &mut u64) -> u32
     ensures { λ r. ⌜ told r (now (value .exit)) ≡ keyed (leb «num_vars» 20) (now (key .entry)) (degreeReply «num_vars» (now (key .entry))) ⌝ }
 {
-    if 20 < num_vars {
-        *value = 0;
-        return 11;
-    }
-    if key.len() != 20 {
-        *value = 0;
-        return 9;
-    }
-    answers::deliver(key_of(key).total_degree(num_vars), value)
+    measure_table(Measure::Total, key, num_vars, value)
 }
 
 // The largest of the first num_vars exponents.
@@ -121,15 +148,7 @@ pub extern "C" fn cobra_key_total_degree(key: &[u8], num_vars: u8, value: &mut u
 pub extern "C" fn cobra_key_max_degree(key: &[u8], num_vars: u8, value: &mut u64) -> u32
     ensures { λ r. ⌜ told r (now (value .exit)) ≡ keyed (leb «num_vars» 20) (now (key .entry)) (largestReply «num_vars» (now (key .entry))) ⌝ }
 {
-    if 20 < num_vars {
-        *value = 0;
-        return 11;
-    }
-    if key.len() != 20 {
-        *value = 0;
-        return 9;
-    }
-    answers::deliver(key_of(key).max_degree(num_vars), value)
+    measure_table(Measure::Largest, key, num_vars, value)
 }
 
 // The twos in the factorials of the first num_vars exponents.
@@ -137,13 +156,5 @@ pub extern "C" fn cobra_key_max_degree(key: &[u8], num_vars: u8, value: &mut u64
 pub extern "C" fn cobra_key_v2_factorial_weight(key: &[u8], num_vars: u8, value: &mut u64) -> u32
     ensures { λ r. ⌜ told r (now (value .exit)) ≡ keyed (leb «num_vars» 20) (now (key .entry)) (weightReply «num_vars» (now (key .entry))) ⌝ }
 {
-    if 20 < num_vars {
-        *value = 0;
-        return 11;
-    }
-    if key.len() != 20 {
-        *value = 0;
-        return 9;
-    }
-    answers::deliver(key_of(key).v2_factorial_weight(num_vars), value)
+    measure_table(Measure::Twos, key, num_vars, value)
 }

@@ -17,12 +17,7 @@ pub(crate) fn reduce(table: &mut [u64], bitwidth: u32)
     requires { ⌜ bitwidth ≤ 64 ⌝ }
     ensures { λ r. ⌜ now (table .exit) ≡ tabulate (length (now (table .entry))) (λ n. at (now (table .entry)) n % 2 ^ bitwidth) ⌝ }
 {
-    let mask = arith::bitmask(bitwidth);
-    let mut i = 0;
-    while i < table.len() {
-        table[i] = table[i] & mask;
-        i += 1;
-    }
+    tables::cut(table, bitwidth);
 }
 
 // The twos of an entry, cut at the width; the width where the row is used.
