@@ -11,6 +11,12 @@ use std::hint::black_box;
 extern "C" {
     fn limit_stirling1(degree: u8, width: u32, table: *mut u64);
     fn limit_stirling2(degree: u8, width: u32, table: *mut u64);
+    fn limit_bitmask(width: u32) -> u64;
+    fn limit_wrapping_mul(a: u64, b: u64) -> u64;
+    fn limit_mod_add(a: u64, b: u64, width: u32) -> u64;
+    fn limit_mod_sub(a: u64, b: u64, width: u32) -> u64;
+    fn limit_mod_neg(a: u64, width: u32) -> u64;
+    fn limit_precision_bits(weight: u32, width: u32) -> u32;
     fn limit_mod_mul(a: u64, b: u64, width: u32) -> u64;
     fn limit_mod_inverse_odd(x: u64, bits: u32) -> u64;
     fn limit_twos_in_factorial(k: u32) -> u32;
@@ -81,7 +87,43 @@ fn valued(call: impl FnOnce(&mut u64) -> u32) -> u64 {
     value
 }
 
-const LEAVES: [Leaf; 5] = [
+const LEAVES: [Leaf; 11] = [
+    Leaf {
+        call: "wrapping_mul",
+        rust: |a, b, _| a.wrapping_mul(b),
+        c: |a, b, _| unsafe { limit_wrapping_mul(a, b) },
+        ours: |a, b, _| unsafe { library::cobra_wrapping_mul(a, b) },
+    },
+    Leaf {
+        call: "bitmask",
+        rust: |a, _, _| arith::bitmask(a as u32 & 127),
+        c: |a, _, _| unsafe { limit_bitmask(a as u32 & 127) },
+        ours: |a, _, _| unsafe { library::cobra_bitmask(a as u32 & 127) },
+    },
+    Leaf {
+        call: "mod_add",
+        rust: |a, b, width| arith::mod_add(a, b, width),
+        c: |a, b, width| unsafe { limit_mod_add(a, b, width) },
+        ours: |a, b, width| unsafe { library::cobra_mod_add(a, b, width) },
+    },
+    Leaf {
+        call: "mod_sub",
+        rust: |a, b, width| arith::mod_sub(a, b, width),
+        c: |a, b, width| unsafe { limit_mod_sub(a, b, width) },
+        ours: |a, b, width| unsafe { library::cobra_mod_sub(a, b, width) },
+    },
+    Leaf {
+        call: "mod_neg",
+        rust: |a, _, width| arith::mod_neg(a, width),
+        c: |a, _, width| unsafe { limit_mod_neg(a, width) },
+        ours: |a, _, width| unsafe { library::cobra_mod_neg(a, width) },
+    },
+    Leaf {
+        call: "precision_bits",
+        rust: |a, _, width| u64::from(rust::precision_bits(a as u32 & 127, width).unwrap_or(0)),
+        c: |a, _, width| u64::from(unsafe { limit_precision_bits(a as u32 & 127, width) }),
+        ours: |a, _, width| u64::from(unsafe { library::cobra_precision_bits(a as u32 & 127, width) }),
+    },
     Leaf {
         call: "mod_mul",
         rust: |a, b, width| arith::mod_mul(a, b, width),

@@ -1,4 +1,4 @@
-/* Both Stirling tables and a few leaves in plain C. */
+/* Both Stirling tables and the leaves in plain C. */
 
 #include "limit.h"
 
@@ -24,6 +24,36 @@ void limit_stirling1(uint8_t degree, uint32_t width, uint64_t *table)
         for (size_t j = 1; j <= i; j++)
             table[i * side + j] = (above[j - 1] - (i - 1) * above[j]) & low_bits(width);
     }
+}
+
+uint64_t limit_bitmask(uint32_t width)
+{
+    return low_bits(width < 64 ? width : 64);
+}
+
+uint64_t limit_wrapping_mul(uint64_t a, uint64_t b)
+{
+    return a * b;
+}
+
+uint64_t limit_mod_add(uint64_t a, uint64_t b, uint32_t width)
+{
+    return (a + b) & low_bits(width);
+}
+
+uint64_t limit_mod_sub(uint64_t a, uint64_t b, uint32_t width)
+{
+    return (a - b) & low_bits(width);
+}
+
+uint64_t limit_mod_neg(uint64_t a, uint32_t width)
+{
+    return -a & low_bits(width);
+}
+
+uint32_t limit_precision_bits(uint32_t weight, uint32_t width)
+{
+    return weight < width ? width - weight : 0;
 }
 
 uint64_t limit_mod_mul(uint64_t a, uint64_t b, uint32_t width)

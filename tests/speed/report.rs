@@ -12,7 +12,8 @@ pub fn line(row: &Row) -> String {
         None => ("–".into(), "–".into()),
     };
     let (c, ours, part) = (us(row.c), us(row.ours), ratio(row.ours / row.c));
-    let (call, shape, size, width) = (input.call, &input.shape, input.size, input.width);
+    let (call, shape, size) = (input.call, &input.shape, input.size);
+    let width = if input.width == 0 { "–".into() } else { input.width.to_string() };
     format!("| `{call}` | {shape} | {size} | {width} | {rust} | {c} | {ours} | {gain} | {part} |")
 }
 

@@ -16,6 +16,7 @@ pub struct Input {
     pub shape: String,
     /// Cells of the box, entries of the matrix, or calls.
     pub size: usize,
+    /// 0 for a call that takes none.
     pub width: u32,
     /// What document 01's steps count.
     pub steps: u64,

@@ -13,6 +13,7 @@ mod forms;
 mod group;
 #[path = "../oracle/ir.rs"]
 mod ir;
+mod keys;
 mod leaves;
 #[path = "../oracle/library.rs"]
 mod library;
@@ -59,6 +60,7 @@ fn main() {
     solvers::time(&mut session);
     forms::time(&mut session);
     leaves::time(&mut session);
+    keys::time(&mut session);
     println!();
     report::reading(&session);
     println!("\n### Growth\n");
