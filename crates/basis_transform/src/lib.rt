@@ -5,6 +5,8 @@ ghost use mathlib.Core.Bool.{false};
 ghost use Rattle.meaning.specs.Settings.{cube};
 ghost use Rattle.meaning.specs.Calls.{inOutNumber, convertLeft};
 ghost use Rattle.meaning.specs.Conversions.{fallingBox, powerBox};
+ghost use Rattle.demand3.specs.Settings.{ConvertPasses};
+ghost use Rattle.demand3.specs.Promises.{ToFalling, ToPowers};
 ghost use Rattle.answers.specs.Said.{saidNumber};
 ghost use Rattle.basis_transform.specs.Directions.{boxOf};
 
@@ -56,6 +58,8 @@ pub fn to_factorial_basis(
     ensures leaves { λ r. ⌜ now (out .exit) ≡ convertLeft total bitwidth (now (support .entry)) (cube (now (support .entry)) «max_degree»)
         (now (coeffs .entry)) (now (out .entry))
         (fallingBox (2 ^ bitwidth) (cube (now (support .entry)) «max_degree») (now (coeffs .entry))) ⌝ }
+    ensures converts { λ r. ⌜ ToFalling (ConvertPasses total bitwidth (now (support .entry)) (cube (now (support .entry)) «max_degree») (now (coeffs .entry)) (now (out .entry)))
+        bitwidth (cube (now (support .entry)) «max_degree») (now (coeffs .entry)) (saidNumber r) (now (out .exit)) ⌝ }
 {
     transform_basis(
         Direction::ToFactorial,
@@ -82,6 +86,8 @@ pub fn to_monomial_basis(
     ensures leaves { λ r. ⌜ now (out .exit) ≡ convertLeft total bitwidth (now (support .entry)) (cube (now (support .entry)) «max_degree»)
         (now (coeffs .entry)) (now (out .entry))
         (powerBox (2 ^ bitwidth) (cube (now (support .entry)) «max_degree») (now (coeffs .entry))) ⌝ }
+    ensures converts { λ r. ⌜ ToPowers (ConvertPasses total bitwidth (now (support .entry)) (cube (now (support .entry)) «max_degree») (now (coeffs .entry)) (now (out .entry)))
+        bitwidth (cube (now (support .entry)) «max_degree») (now (coeffs .entry)) (saidNumber r) (now (out .exit)) ⌝ }
 {
     transform_basis(
         Direction::ToMonomial,

@@ -1,5 +1,5 @@
 -- From the reader and the text to what becomes of the input.
-use mathlib.Core.Path.{_≡_, sym, _∙_, ap}
+use mathlib.Core.Path.{_≡_, refl, sym, _∙_, ap}
 use mathlib.Core.List.{List}
 use Prim.Native.Nat.{ℕ, _≤_}
 use native.Mathlib.Omega.{arith}
@@ -15,6 +15,7 @@ use Rattle.bench_file.specs.declared.reader.Reading.{Reading}
 use Rattle.bench_file.specs.declared.reader.Reader.{Reader}
 use Rattle.bench.specs.Answers.{FedBy, Led, SaysText, LeavesText}
 use Rattle.bench.specs.RoomLaws.{text-room}
+use Rattle.bench.specs.GridAnswers.{answering}
 use Rattle.bench.specs.Endings.{TextOf}
 
 -- all bytes say something
@@ -51,8 +52,11 @@ module _ (t₀ : List ℕ) (zeros : t₀ ≡ replicate 4096 0) (r : Reader) (t o
         bytes = led .bytes;
         content = s .content;
         says = s .says;
+        text = benchText (s .content);
+        layout = refl;
+        answers = answering (s .content);
         size = ap bytes-of (sym e ∙ has-size);
-        text = leaves (led .bytes) (s .content) by-bytes (s .says) ∙ printed-whole (benchText (s .content)) out fits;
+        begins = leaves (led .bytes) (s .content) by-bytes (s .says) ∙ printed-whole (benchText (s .content)) out fits;
       }
     where
       bytes-of : Written → ℕ
@@ -67,5 +71,5 @@ module _ (t₀ : List ℕ) (zeros : t₀ ≡ replicate 4096 0) (r : Reader) (t o
 -- the text lies inside its buffer
 pub text-inside : (n : ℕ) (out left : List ℕ) → length out ≡ 1122347 → TextOf n out left → n ≤ length left
 text-inside n out left room a =
-    let same : length left ≡ length out = ap length (a .text) ∙ length-sets out 0 (benchText (a .content)) in
-    omega (arith, text-room (a .content), a .size, room, same)
+    let same : length left ≡ length out = ap length (a .begins) ∙ length-sets out 0 (a .text) in
+    omega (arith, text-room (a .content), ap length (a .layout), a .size, room, same)

@@ -5,3 +5,4 @@ pub mod Calls
 pub mod CallLaws
 pub mod TableLaws
 pub mod FitLaws
+pub mod Passing

@@ -23,6 +23,9 @@ use Rattle.answers.specs.Said.{code, said}
 use Rattle.answers.specs.Laws.{Settled, number-accepted, value-accepted, number-refused, reply-code, first-code, left-code, settled-number}
 use Rattle.byte_calls.specs.Bytes.{decoded, encoded}
 use Rattle.byte_calls.specs.ByteLaws.{length-decoded}
+use Rattle.demand3.specs.Promises.{Decides, Valued}
+use Rattle.demand3.specs.Also.{also, also₂}
+use Rattle.byte_calls.specs.Passing.{RecoverHolds, ValueHolds, bytes-decide, bytes-valued}
 use Rattle.byte_calls.specs.Calls.{holds, boxNumber, recoverCause, recoverNumber, recoverLeft, bytesValueReply}
 
 is-true : (b : Bool) (n : ℕ) → _≡_ {A = ℕ} (cond b 0 (suc n)) 0 → b ≡ true
@@ -100,23 +103,31 @@ module _ (count total w : ℕ) (support ds values out : List ℕ) where
   unfolding recoverCause
   recover-causes e q = ap₂ first e q
 
+  -- what is returned and left, and what they promise
+  abbrev Said : ℕ → List ℕ → Type 0
+  Said n t =
+      (n ≡ recoverNumber count total w support ds values out)
+      × ((t ≡ recoverLeft count total w support ds values out)
+      × Decides (RecoverHolds count total w support ds values out) w ds (decoded values) n (decoded t))
+
+  promised : {n : ℕ} {t : List ℕ} → (n ≡ recoverNumber count total w support ds values out) × (t ≡ recoverLeft count total w support ds values out) → Said n t
+  promised = also₂ (bytes-decide count total w support ds values out)
+
   -- settings that are turned down
-  pub recover-turned : (r : Refusal) → boxNumber true count total w support ds ≡ code r
-      → (code r ≡ recoverNumber count total w support ds values out) × (out ≡ recoverLeft count total w support ds values out)
+  pub recover-turned : (r : Refusal) → boxNumber true count total w support ds ≡ code r → Said (code r) out
   unfolding recoverNumber recoverLeft
   recover-turned r e =
       let cause = recover-causes e refl ∙ first-code r _ refl in
-      (sym (first-code r _ cause), sym (left-code r _ _ cause))
+      promised (sym (first-code r _ cause), sym (left-code r _ _ cause))
 
   module _ {n : ℕ} (b : Boxed true count total w support ds n) where
     -- a wrong length
-    pub recover-lengths : holds values n && holds out n ≡ false
-        → _≡_ {A = ℕ} 9 (recoverNumber count total w support ds values out) × (out ≡ recoverLeft count total w support ds values out)
+    pub recover-lengths : holds values n && holds out n ≡ false → Said 9 out
     unfolding recoverNumber recoverLeft
     recover-lengths e =
         let exact = ap₂ _&&_ (holds-cells b values refl) (holds-cells b out refl) ∙ e in
         let cause = recover-causes (b .number) (ap (λ (x : Bool). cond x 0 9) exact) in
-        (nine-first _ _ cause, nine-left _ _ out cause)
+        promised (nine-first _ _ cause, nine-left _ _ out cause)
 
     module _ (hv : holds values n ≡ true) (ho : holds out n ≡ true) (found : List ℕ) (long : length found ≡ n) where
       exact : eqb (length (decoded values)) (cells ds) && eqb (length found) (cells ds) ≡ true
@@ -130,12 +141,12 @@ module _ (count total w : ℕ) (support ds values out : List ℕ) where
 
       -- the call on the tables
       pub recover-done : {x : ℕ} {t : List ℕ} → x ≡ recoveryNumber total w (decoded support) ds (decoded values) found
-          → t ≡ encoded (recoveryLeft total w (decoded support) ds (decoded values) found)
-          → (x ≡ recoverNumber count total w support ds values out) × (t ≡ recoverLeft count total w support ds values out)
+          → t ≡ encoded (recoveryLeft total w (decoded support) ds (decoded values) found) → Said x t
       unfolding recoverNumber recoverLeft recoveryNumber recoveryLeft
       recover-done p q =
           let v = decoded values in
-          let done = cond (accepts w ds v) (answer w ds v) (tabulate (cells ds) (λ n. 0)) in (
+          let done = cond (accepts w ds v) (answer w ds v) (tabulate (cells ds) (λ n. 0)) in
+          promised (
             p ∙ ap (λ (k : ℕ). first k (cond (accepts w ds v) 0 6)) (passed ∙ sym cause),
             q ∙ ap (λ (k : ℕ). encoded (left k done found)) passed ∙ ap (λ (k : ℕ). left k (encoded done) out) (sym cause),
           )
@@ -143,11 +154,19 @@ module _ (count total w : ℕ) (support ds values out : List ℕ) where
 -- ---- the value
 
 module _ (count total w : ℕ) (support ds coeffs point : List ℕ) where
+  -- the reply, and what it promises
+  abbrev Replied : Reply → Type 0
+  Replied r =
+      (r ≡ bytesValueReply count total w support ds coeffs point)
+      × Valued (ValueHolds count total w support ds coeffs point) w ds (decoded coeffs) (decoded point) r
+
+  told : {r : Reply} → r ≡ bytesValueReply count total w support ds coeffs point → Replied r
+  told = also (bytes-valued count total w support ds coeffs point)
+
   -- settings that are turned down
-  pub value-turned : (r : Refusal) → boxNumber false count total w support ds ≡ code r
-      → refused (code r) ≡ bytesValueReply count total w support ds coeffs point
+  pub value-turned : (r : Refusal) → boxNumber false count total w support ds ≡ code r → Replied (refused (code r))
   unfolding bytesValueReply
-  value-turned r e = reply-code r _ (first-code r _ e)
+  value-turned r e = told (reply-code r _ (first-code r _ e))
 
   module _ {n : ℕ} (b : Boxed false count total w support ds n) where
     number-of : (x : Bool) → holds coeffs n && holds point count ≡ x
@@ -156,17 +175,18 @@ module _ (count total w : ℕ) (support ds coeffs point : List ℕ) where
         ap₂ first (b .number) (ap (λ (x : Bool). cond x 0 9) (ap (_&& holds point count) (holds-cells b coeffs refl) ∙ e))
 
     -- a wrong length
-    pub value-lengths : holds coeffs n && holds point count ≡ false → refused 9 ≡ bytesValueReply count total w support ds coeffs point
+    pub value-lengths : holds coeffs n && holds point count ≡ false → Replied (refused 9)
     unfolding bytesValueReply
-    value-lengths e = sym (ap (λ (k : ℕ). reply k (value (2 ^ w) ds (decoded coeffs) (decoded point))) (number-of false e))
+    value-lengths e = told (sym (ap (λ (k : ℕ). reply k (value (2 ^ w) ds (decoded coeffs) (decoded point))) (number-of false e)))
 
     -- the call on the tables
     pub value-done : holds coeffs n ≡ true → holds point count ≡ true
-        → {r : Reply} → r ≡ valueReply total w (decoded support) ds (decoded coeffs) (decoded point) → r ≡ bytesValueReply count total w support ds coeffs point
+        → {r : Reply} → r ≡ valueReply total w (decoded support) ds (decoded coeffs) (decoded point) → Replied r
     unfolding bytesValueReply valueReply
     value-done hc hp q =
         let here = length-decoded point count (eqb-true _ _ hp) ∙ sym (length-decoded support count (b .bytes)) in
         let exact = ap₂ _&&_ (eq-eqb _ _ (decoded-cells b coeffs hc)) (eq-eqb _ _ here) in
-        q
+        told
+        (q
         ∙ ap (λ (k : ℕ). reply k (value (2 ^ w) ds (decoded coeffs) (decoded point)))
-        (settled-number (b .settles) _ true exact ∙ sym (number-of true (ap₂ _&&_ hc hp)))
+        (settled-number (b .settles) _ true exact ∙ sym (number-of true (ap₂ _&&_ hc hp))))

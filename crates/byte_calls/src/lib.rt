@@ -4,9 +4,11 @@ ghost use Prim.Native.Nat.{_*_};
 ghost use lib.ListN.{length};
 ghost use Rattle.meaning.specs.Settings.{cube};
 ghost use Rattle.meaning.specs.Calls.{recoveryNumber, recoveryLeft, valueReply};
+ghost use Rattle.demand3.specs.Promises.{Decides, Valued};
 ghost use Rattle.answers.specs.Said.{said, saidNumber};
 ghost use Rattle.byte_calls.specs.Bytes.{decoded, encoded};
 ghost use Rattle.byte_calls.specs.Calls.{recoverNumber, recoverLeft, bytesValueReply};
+ghost use Rattle.byte_calls.specs.Passing.{RecoverHolds, ValueHolds};
 
 mod checks;
 mod codec;
@@ -65,6 +67,8 @@ pub fn recover(
         (now (values .entry)) (now (out .entry)) ⌝ }
     ensures leaves { λ r. ⌜ now (out .exit) ≡ recoverLeft count total width (now (support .entry)) (cube (decoded (now (support .entry))) degree)
         (now (values .entry)) (now (out .entry)) ⌝ }
+    ensures decides { λ r. ⌜ Decides (RecoverHolds count total width (now (support .entry)) (cube (decoded (now (support .entry))) degree) (now (values .entry)) (now (out .entry)))
+        width (cube (decoded (now (support .entry))) degree) (decoded (now (values .entry))) (saidNumber r) (decoded (now (out .exit))) ⌝ }
 {
     match checks::check(true, support, count, total, width, degree) {
         Number::Refused(refusal) => Outcome::Refused(refusal),
@@ -129,8 +133,10 @@ pub fn value(
     degree: u8,
     point: &[u8],
 ) -> Number
-    ensures { λ r. ⌜ said r ≡ bytesValueReply count total width (now (support .entry)) (cube (decoded (now (support .entry))) degree)
+    ensures says { λ r. ⌜ said r ≡ bytesValueReply count total width (now (support .entry)) (cube (decoded (now (support .entry))) degree)
         (now (coeffs .entry)) (now (point .entry)) ⌝ }
+    ensures values { λ r. ⌜ Valued (ValueHolds count total width (now (support .entry)) (cube (decoded (now (support .entry))) degree) (now (coeffs .entry)) (now (point .entry)))
+        width (cube (decoded (now (support .entry))) degree) (decoded (now (coeffs .entry))) (decoded (now (point .entry))) (said r) ⌝ }
 {
     match checks::check(false, support, count, total, width, degree) {
         Number::Refused(refusal) => Number::Refused(refusal),

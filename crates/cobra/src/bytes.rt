@@ -3,8 +3,10 @@
 ghost use mathlib.Core.Path.{_≡_};
 ghost use Rattle.meaning.specs.Settings.{cube};
 ghost use Rattle.meaning.specs.Replies.{told};
+ghost use Rattle.demand3.specs.Promises.{Decides, Valued};
 ghost use Rattle.byte_calls.specs.Bytes.{decoded};
 ghost use Rattle.byte_calls.specs.Calls.{recoverNumber, recoverLeft, bytesValueReply, fitHeld, fitBytesReply, fitBytesLeft};
+ghost use Rattle.byte_calls.specs.Passing.{RecoverHolds, ValueHolds};
 
 // Recovery from the values on a grid.
 #[no_mangle]
@@ -21,6 +23,8 @@ pub extern "C" fn cobra_recover(
         (now (values .entry)) (now (out .entry)) ⌝ }
     ensures leaves { λ r. ⌜ now (out .exit) ≡ recoverLeft count total width (now (support .entry)) (cube (decoded (now (support .entry))) degree)
         (now (values .entry)) (now (out .entry)) ⌝ }
+    ensures decides { λ r. ⌜ Decides (RecoverHolds count total width (now (support .entry)) (cube (decoded (now (support .entry))) degree) (now (values .entry)) (now (out .entry)))
+        width (cube (decoded (now (support .entry))) degree) (decoded (now (values .entry))) r (decoded (now (out .exit))) ⌝ }
 {
     answers::outcome_code(byte_calls::recover(values, support, count, total, width, degree, out))
 }
@@ -37,8 +41,10 @@ pub extern "C" fn cobra_value(
     point: &[u8],
     value: &mut u64,
 ) -> u32
-    ensures { λ r. ⌜ told r (now (value .exit)) ≡ bytesValueReply count total width (now (support .entry))
+    ensures says { λ r. ⌜ told r (now (value .exit)) ≡ bytesValueReply count total width (now (support .entry))
         (cube (decoded (now (support .entry))) degree) (now (coeffs .entry)) (now (point .entry)) ⌝ }
+    ensures values { λ r. ⌜ Valued (ValueHolds count total width (now (support .entry)) (cube (decoded (now (support .entry))) degree) (now (coeffs .entry)) (now (point .entry)))
+        width (cube (decoded (now (support .entry))) degree) (decoded (now (coeffs .entry))) (decoded (now (point .entry))) (told r (now (value .exit))) ⌝ }
 {
     answers::deliver(
         byte_calls::value(coeffs, support, count, total, width, degree, point),

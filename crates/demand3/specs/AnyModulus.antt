@@ -4,14 +4,16 @@ use mathlib.Core.Path.{_≡_, sym, _∙_}
 use mathlib.Core.Logic.{_↔_}
 use Prim.Native.Nat.{ℕ, _%_, _<_}
 use mathlib.Core.List.{List, map}
-use lib.IntN.{ℤ}
+use lib.IntN.{ℤ, pos}
+use lib.ListN.{length}
 use Rattle.meaning.specs.Tables.{at}
 use Rattle.meaning.specs.Boxes.{cells, digits}
 use Rattle.meaning.specs.Values.{value, Bounded, boxTotal}
 use Rattle.meaning.specs.Integers.{residue}
-use Rattle.meaning.specs.Polynomials.{Polynomial, polynomialAt, PolynomialAgrees, boxAt}
+use Rattle.meaning.specs.Polynomials.{Term, termsAt, Polynomial, polynomialAt, PolynomialAgrees, boxAt}
 use Rattle.theory.specs.Every.{Failing}
 use Rattle.theory.specs.Integers.{residue-boxAt}
+use Rattle.theory.specs.CutPolynomials.{cutBox, cutBox-agrees}
 use Rattle.theory.specs.GridRecovery.{Cells, Passes, solutions, tableTotal, solutions-bounded, solutions-agree, passes-of-agrees, agrees-same, bounded-disagrees, passes-total, solutions-total}
 use Rattle.theory.specs.WholeNumbers.{polynomialBox, powerPolynomial, residue-polynomialAt, polynomial-agrees-iff, powerPolynomial-agrees-iff}
 
@@ -24,6 +26,10 @@ module _ {m : ℕ} (positive : 0 < m) (o : Cells m) (ds v : List ℕ) where
         (p, powerPolynomial-agrees-iff positive ds (solutions o ds v) v .1 (solutions-agree positive o ds v h)),
     λ s. passes-of-agrees positive o ds (polynomialBox m ds (s .0)) v (polynomial-agrees-iff positive ds (s .0) v .0 (s .1)),
   )
+
+  -- and so for polynomials of any exponents
+  pub passes-of-any : (p : List Term) → ((n : ℕ) → n < cells ds → residue m (termsAt (length ds) p (map pos (digits ds n))) ≡ at v n % m) → Passes o ds v
+  passes-of-any p a = passes-of-agrees positive o ds (cutBox m ds p) v (cutBox-agrees positive ds p v a)
 
   -- 3: the answer is bounded, and where every difference passes it has at every point the value of every polynomial that agrees
   pub answer-bounded : Bounded (λ es. o es .h) ds (solutions o ds v)

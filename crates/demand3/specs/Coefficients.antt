@@ -26,7 +26,7 @@ use Rattle.theory.specs.Evaluation.{eval, eval-cong}
 use Rattle.theory.specs.Integers.{residue-pos, residue-add, residue-lt}
 use Rattle.theory.specs.PowerBoxes.{gathered, residue-termsAt, termsOf, polynomialOf}
 use Rattle.theory.specs.Values.{entry, within-of-cells}
-use Rattle.demand3.specs.Settings.{and-true}
+use Rattle.demand3.specs.Tests.{and-true}
 use Rattle.demand3.specs.Words.{polynomialValue, coefficientOf, Coefficients}
 
 -- 1 where the numbers are equal, else 0
@@ -65,13 +65,13 @@ module _ {m : ℕ} (positive : 0 < m) where
       (gathered-cong u r))
       (cong-sym (residue-add positive (cond (sameList (t .exponents) js) (t .coefficient) (pos 0)) (coefficientOf ts js)))
 
-module _ (w : ℕ) (ds : List ℕ) (p : List Term) (degrees : Terms ds p) where
+module _ (w : ℕ) (ds : List ℕ) (p : List Term) where
   -- a polynomial has the value of the powers with its coefficients
   pub value-coefficients : (c : List ℕ) → Coefficients w ds p c → (zs : List ℤ)
       → polynomialValue w ds p zs ≡ eval _^_ ds (entry ds c) (map (residue (2 ^ w)) zs) % 2 ^ w
   value-coefficients c h zs =
       sym (mod-eq-of-lt (residue-lt positive (termsAt (length ds) p zs)))
-      ∙ cong-trans (residue-termsAt positive zs degrees) (eval-cong _^_ ds (map (residue (2 ^ w)) zs) (λ es u. cong-sym (same es u))) .same
+      ∙ cong-trans (residue-termsAt positive zs (h .within)) (eval-cong _^_ ds (map (residue (2 ^ w)) zs) (λ es u. cong-sym (same es u))) .same
     where
       positive : 0 < 2 ^ w
       positive = pow-pos w
@@ -80,14 +80,15 @@ module _ (w : ℕ) (ds : List ℕ) (p : List Term) (degrees : Terms ds p) where
       same =
           within-of-cells (λ es n. Cong (2 ^ w) (at c n) (gathered (2 ^ w) (length ds) p es)) ds
           (λ n l. cong-trans (record { same = h .each n l ∙ sym (mod-eq-of-lt (residue-lt positive (coefficientOf p (digits ds n)))) })
-          (cong-sym (gathered-cong positive (digits-within ds n) degrees)))
+          (cong-sym (gathered-cong positive (digits-within ds n) (h .within))))
 
 -- ---- the table of a polynomial
 
-pub coefficients : (w : ℕ) (ds : List ℕ) (p : List Term)
+pub coefficients : (w : ℕ) (ds : List ℕ) (p : List Term) → Terms ds p
     → Coefficients w ds p (tabulate (cells ds) (λ n. residue (2 ^ w) (coefficientOf p (digits ds n))))
-coefficients w ds p =
+coefficients w ds p degrees =
     record {
+      within = degrees;
       whole = length-tabulate (cells ds) _;
       each = λ n l. ap (_% 2 ^ w) (at-tabulate (cells ds) _ n l) ∙ mod-eq-of-lt (residue-lt (pow-pos w) (coefficientOf p (digits ds n)));
     }
@@ -145,6 +146,7 @@ pub table-coefficients : (w : ℕ) (ds c : List ℕ) → length c ≡ cells ds �
 unfolding polynomialOf residue
 table-coefficients w ds c e =
     record {
+      within = polynomialOf ds c .within;
       whole = e;
       each = λ n l. ap (residue (2 ^ w)) (sym
           (coefficient-one (cells ds) (λ i. record { coefficient = pos (at c i); exponents = digits ds i }) (digits ds n) n l

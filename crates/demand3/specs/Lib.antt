@@ -1,13 +1,17 @@
--- Demand 3, stated and proved. Words.antt and Settings.antt have the words that are not in `meaning`; the statements are in Recovery.antt (1 to 4),
--- Sums.antt (5) and NormalForms.antt (6), and Calls.antt says them of what the code returns and leaves in the lent tables. docs/DEMAND-3.md is the
--- way in.
+-- What the calls promise, stated and proved. Words.antt, Settings.antt and Promises.antt have the words and the statements, which the contracts of the calls
+-- cite; the rest are proofs: that a call's equations give its promise (Decided, BoxCalls), and what follows for several calls (Consequences).
+-- docs/DEMAND-3.md is the way in.
 pub mod Words
+pub mod Tests
 pub mod Settings
+pub mod Promises
+pub mod SameWords
 pub mod Recovery
-pub mod Sums
+pub mod Decided
 pub mod Coefficients
 pub mod NormalForms
-pub mod SameWords
-pub mod Calls
+pub mod Consequences
+pub mod BoxCalls
 pub mod AnyModulus
 pub mod Examples
+pub mod Also

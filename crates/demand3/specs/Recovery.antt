@@ -1,33 +1,33 @@
--- Statements 1 to 4: what recovery says, and what it leaves in the output.
--- Theory has each of them of the two definitions `accepts` and `answer`. Here they are said of the returned number and of the output at the end, for
--- every call whose settings and lengths pass.
-use mathlib.Core.Path.{_≡_, refl, sym, ap, _∙_}
-use mathlib.Core.Logic.{_⊎_, inl, inr, _↔_}
-use mathlib.Core.Bool.{Bool, true, false, _&&_, cond}
-use Prim.Native.Nat.{ℕ, _%_, _^_, _<_}
-use mathlib.Core.List.{List, map}
+-- What the two definitions of recovery say in the words of demand 3: every difference passes exactly when some polynomial agrees, of any exponents or within
+-- the box; the answer has the values of all of them; it is the only normal form that agrees.
+use mathlib.Core.Path.{_≡_, sym, _∙_}
+use Prim.Native.Nat.{ℕ, zero, suc, _+_, _%_, _^_, _≤_, _<_, suc-le-suc}
+use mathlib.Core.List.{List, _++_, map}
 use native.Mathlib.Decide.{ℕ-discrete}
-use lib.Dec.{T, eqb}
+use native.Mathlib.Nat.{not-suc-le-zero, le-of-suc-le-suc, add-zero, zero-add, add-comm}
+use lib.Dec.{T}
 use lib.Pow.{pow-pos}
 use lib.IntN.{ℤ, pos}
 use lib.ListN.{length}
-use Rattle.meaning.specs.Tables.{tabulate, at}
-use Rattle.meaning.specs.Boxes.{cells, digits}
-use Rattle.meaning.specs.Values.{value, bound, Normal, Agrees}
+use Rattle.meaning.specs.Tables.{at}
+use Rattle.meaning.specs.Boxes.{cells, digits, Within, none, next}
+use Rattle.meaning.specs.Factorials.{degreeCap}
+use Rattle.meaning.specs.Values.{value, Agrees}
 use Rattle.meaning.specs.Integers.{residue}
 use Rattle.meaning.specs.Polynomials.{Term, Polynomial, polynomialAt, PolynomialAgrees}
 use Rattle.meaning.specs.Recovery.{accepts, answer}
-use Rattle.meaning.specs.Settings.{first}
-use Rattle.meaning.specs.Calls.{left, inOutNumber, recoveryNumber, recoveryLeft}
+use Rattle.theory.specs.Congruence.{Cong, cong-of-eq, cong-sym, cong-trans, cong-add-left, cong-add-cancel, eq-of-cong}
+use Rattle.theory.specs.Boxes.{digits-within}
 use Rattle.theory.specs.Every.{failing}
-use Rattle.theory.specs.Integers.{residue-boxAt}
+use Rattle.theory.specs.Integers.{residue-boxAt, residue-lt}
 use Rattle.theory.specs.Values.{value-cong-point}
+use Rattle.theory.specs.CutPolynomials.{cutBox, value-cutBox, cutBox-agrees}
+use Rattle.theory.specs.DecidingGrids.{cuts-deciding}
+use Rattle.theory.specs.OpenGrids.{alone, fallingTerms, residue-append, fallingTerms-zero, fallingTerms-not-zero}
 use Rattle.theory.specs.DemandThree
 use Rattle.theory.specs.WholeNumbers
-use Rattle.demand3.specs.Words.{polynomialValue, boxValue, Agreeing, NormalForm, Disagreement}
-use Rattle.demand3.specs.Settings.{Passing, passing-iff, first-zero, first-6, call-not-6, suc-zero}
-
--- ---- the two definitions
+use Rattle.demand3.specs.SameWords.{normal-iff}
+use Rattle.demand3.specs.Words.{polynomialValue, boxValue, OnGrid, Agreeing, BoxOnGrid, NormalForm, Disagreement, Deciding, Another}
 
 -- the value of a box at natural numbers, in both ways of saying it
 pub value-eq : (w : ℕ) (ds c xs : List ℕ) → boxValue w ds c (map pos xs) ≡ value (2 ^ w) ds c xs
@@ -36,147 +36,107 @@ value-eq w ds c xs =
     ∙ value-cong-point (2 ^ w) ds c (map (residue (2 ^ w)) (map pos xs)) xs (λ i p. WholeNumbers.residue-coordinates (pow-pos w) xs i)
 
 module _ (w : ℕ) (ds v : List ℕ) where
-  -- the answer has at every point the value of every polynomial that agrees
-  answer-values : (p : List Term) → Agreeing w ds v p → (zs : List ℤ) → boxValue w ds (answer w ds v) zs ≡ polynomialValue w ds p zs
-  unfolding PolynomialAgrees polynomialAt
-  answer-values p a zs = WholeNumbers.answer-residue w ds (record { terms = p; within = a .degrees }) v zs (a .everywhere)
+  -- ---- acceptance
 
-  -- a polynomial that agrees makes every difference pass
-  accepts-of-agreeing : (p : List Term) → Agreeing w ds v p → T (accepts w ds v)
-  unfolding PolynomialAgrees polynomialAt
-  accepts-of-agreeing p a = WholeNumbers.accepts-of-polynomial w ds (record { terms = p; within = a .degrees }) v (a .everywhere)
+  -- a polynomial of any exponents that has the lent values makes every difference pass
+  pub accepts-of-onGrid : (p : List Term) → OnGrid w ds v p → T (accepts w ds v)
+  accepts-of-onGrid p a = DemandThree.accepts-of-agrees w ds (cutBox (2 ^ w) ds p) v (cutBox-agrees (pow-pos w) ds p v a)
 
-  -- where every difference passes, a polynomial agrees
-  agreeing-of-accepts : T (accepts w ds v) → (p : List Term) × Agreeing w ds v p
+  -- where every difference passes, a polynomial within the box agrees
+  pub agreeing-of-accepts : T (accepts w ds v) → (p : List Term) × Agreeing w ds v p
   unfolding PolynomialAgrees polynomialAt
   agreeing-of-accepts t =
       let p : Polynomial ds = WholeNumbers.powerPolynomial (2 ^ w) ds (answer w ds v) in
       (p .terms, record { degrees = p .within; everywhere = WholeNumbers.polynomial-of-accepts w ds v t })
 
-  -- the answer is the only normal form that agrees
-  answer-unique : (c : List ℕ) → NormalForm w ds c → Agrees (2 ^ w) ds c v → c ≡ answer w ds v
-  unfolding bound
-  answer-unique c n a = DemandThree.normal-unique w ds c v (record { whole = n .whole; below = n .below }) a
+  -- ---- the answer
 
-  -- the answer is a normal form
-  answer-normal : NormalForm w ds (answer w ds v)
-  unfolding bound
-  answer-normal = let n : Normal w ds (answer w ds v) = DemandThree.answer-normal w ds v in record { whole = n .whole; below = n .below }
+  -- it is a normal form
+  pub answer-normal : NormalForm w ds (answer w ds v)
+  answer-normal = normal-iff w ds (answer w ds v) .0 (DemandThree.answer-normal w ds v)
+
+  -- where every difference passes, it agrees with the grid
+  pub answer-agrees : T (accepts w ds v) → BoxOnGrid w ds v (answer w ds v)
+  unfolding Agrees
+  answer-agrees t n p = value-eq w ds (answer w ds v) (digits ds n) ∙ DemandThree.answer-agrees w ds v t n p
+
+  -- it has at every point the value of every polynomial within the box that agrees
+  pub answer-values : (p : List Term) → Agreeing w ds v p → (zs : List ℤ) → boxValue w ds (answer w ds v) zs ≡ polynomialValue w ds p zs
+  unfolding PolynomialAgrees polynomialAt
+  answer-values p a zs = WholeNumbers.answer-residue w ds (record { terms = p; within = a .degrees }) v zs (a .everywhere)
+
+  -- where the grid decides, of every polynomial that has the lent values
+  pub answer-decides : Deciding w ds → (p : List Term) → OnGrid w ds v p → (zs : List ℤ) → boxValue w ds (answer w ds v) zs ≡ polynomialValue w ds p zs
+  answer-decides h p a zs =
+      residue-boxAt (pow-pos w) ds (answer w ds v) zs
+      ∙ DemandThree.same-values w ds (answer w ds v) (cutBox (2 ^ w) ds p) v (map (residue (2 ^ w)) zs)
+      (DemandThree.answer-agrees w ds v (accepts-of-onGrid p a)) (cutBox-agrees (pow-pos w) ds p v a)
+      ∙ value-cutBox (pow-pos w) ds p zs (cuts-deciding w ds (map (residue (2 ^ w)) zs) h)
+
+  -- it is the only normal form that agrees
+  pub answer-unique : (c : List ℕ) → NormalForm w ds c → BoxOnGrid w ds v c → c ≡ answer w ds v
+  unfolding Agrees
+  answer-unique c n a =
+      DemandThree.normal-unique w ds c v (normal-iff w ds c .1 n) (λ i p. sym (value-eq w ds c (digits ds i)) ∙ a i p)
 
   -- a box that does not agree has a disagreement
-  disagreement : (c : List ℕ) → (Agrees (2 ^ w) ds c v → ⊥) → Disagreement w ds c v
-  unfolding Agrees
+  pub disagreement : (c : List ℕ) → (BoxOnGrid w ds v c → ⊥) → Disagreement w ds c v
   disagreement c ne =
-      let f = failing (cells ds) (λ n. value (2 ^ w) ds c (digits ds n) ≡ at v n % 2 ^ w)
-      (λ n. ℕ-discrete (value (2 ^ w) ds c (digits ds n)) (at v n % 2 ^ w)) ne in
-      record { place = f .index; inside = f .below; differs = λ e. f .fails (sym (value-eq w ds c (digits ds (f .index))) ∙ e) }
+      let f = failing (cells ds) (λ n. boxValue w ds c (map pos (digits ds n)) ≡ at v n % 2 ^ w)
+      (λ n. ℕ-discrete (boxValue w ds c (map pos (digits ds n))) (at v n % 2 ^ w)) ne in
+      record { place = f .index; inside = f .below; differs = f .fails }
 
--- ---- the calls
+-- ---- what a grid leaves open
 
--- 0 where every difference passes, else 6
-abbrev verdict : Bool → ℕ
-verdict b = cond b 0 6
+within-at : {ds es : List ℕ} → Within ds es → (i : ℕ) → i < length ds → at es i ≤ at ds i
+within-at none i l = absurd (not-suc-le-zero l)
+within-at (next p u) zero l = p
+within-at (next p u) (suc i) l = within-at u i (le-of-suc-le-suc l)
 
-verdict-accepted : (b : Bool) → (verdict b ≡ 0) ↔ T b
-verdict-accepted true = (λ e. tt, λ t. refl)
-verdict-accepted false = (λ e. suc-zero 5 e, λ t. absurd t)
+-- where a degree d is below the deciding one, the falling factorial to d + 1 can be added: it is 0 on the grid, and not at d + 1
+pub another : (w : ℕ) (ds v : List ℕ) → T (accepts w ds v) → (i : ℕ) → i < length ds → suc (at ds i) < degreeCap w → Another w ds v (answer w ds v)
+another w ds v t i l h =
+    record {
+      polynomial = p ++ q;
+      on-grid = λ j b. eq-of-cong (residue-lt positive _) (residue-lt positive _) (cong-trans (append (grid j)) (vanishing j)) ∙ agrees .everywhere j b;
+      point = map pos (alone i n);
+      differs = λ e. fallingTerms-not-zero w k i n l h (nothing (sym (answer-values w ds v p agrees (map pos (alone i n))) ∙ e));
+    }
+  where
+    positive : 0 < 2 ^ w
+    positive = pow-pos w
 
-verdict-refused : (b : Bool) → (verdict b ≡ 6) ↔ (T b → ⊥)
-verdict-refused true = (λ e. suc-zero 5 (sym e), λ f. absurd (f tt))
-verdict-refused false = (λ e t. t, λ f. refl)
+    k : ℕ
+    k = length ds
 
-module _ (total w : ℕ) (support ds v out : List ℕ) where
-  -- what is accepted has passed
-  pub accepted-passing : recoveryNumber total w support ds v out ≡ 0 → Passing total w support ds v out
-  unfolding recoveryNumber
-  accepted-passing e = passing-iff total w support ds v out .0 (first-zero (inOutNumber true total w support ds v out) (verdict (accepts w ds v)) .0 e .0)
+    n : ℕ
+    n = suc (at ds i)
 
-  -- and so has what is refused with 6
-  pub refused-passing : recoveryNumber total w support ds v out ≡ 6 → Passing total w support ds v out
-  unfolding recoveryNumber
-  refused-passing e =
-      passing-iff total w support ds v out .0
-      (first-6 (inOutNumber true total w support ds v out) (verdict (accepts w ds v))
-      (call-not-6 total w support ds true (eqb (length v) (cells ds) && eqb (length out) (cells ds))) e)
+    p : List Term
+    p = agreeing-of-accepts w ds v t .0
 
-  module _ (passing : Passing total w support ds v out) where
-    number-eq : recoveryNumber total w support ds v out ≡ verdict (accepts w ds v)
-    unfolding recoveryNumber
-    number-eq = ap (λ (k : ℕ). first k (verdict (accepts w ds v))) (passing-iff total w support ds v out .1 passing)
+    agrees : Agreeing w ds v p
+    agrees = agreeing-of-accepts w ds v t .1
 
-    left-eq : recoveryLeft total w support ds v out ≡ cond (accepts w ds v) (answer w ds v) (tabulate (cells ds) (λ n. 0))
-    unfolding recoveryLeft
-    left-eq =
-        ap (λ (k : ℕ). left k (cond (accepts w ds v) (answer w ds v) (tabulate (cells ds) (λ n. 0))) out)
-        (passing-iff total w support ds v out .1 passing)
+    q : List Term
+    q = fallingTerms i n
 
-    -- 1: recovery accepts exactly when some polynomial agrees with the grid
-    pub accepted-iff : (recoveryNumber total w support ds v out ≡ 0) ↔ ((p : List Term) × Agreeing w ds v p)
-    accepted-iff = rw number-eq (
-      λ e. agreeing-of-accepts w ds v (verdict-accepted (accepts w ds v) .0 e),
-      λ s. verdict-accepted (accepts w ds v) .1 (accepts-of-agreeing w ds v (s .0) (s .1)),
-    )
+    grid : ℕ → List ℤ
+    grid j = map pos (digits ds j)
 
-    -- 2: its refusal is 6 exactly when none does
-    pub refused-iff : (recoveryNumber total w support ds v out ≡ 6) ↔ ((p : List Term) → Agreeing w ds v p → ⊥)
-    refused-iff = rw number-eq (
-      λ e p a. verdict-refused (accepts w ds v) .0 e (accepts-of-agreeing w ds v p a),
-      λ f. verdict-refused (accepts w ds v) .1 (λ t. let s = agreeing-of-accepts w ds v t in f (s .0) (s .1)),
-    )
+    append : (zs : List ℤ) → Cong (2 ^ w) (polynomialValue w ds (p ++ q) zs) (polynomialValue w ds p zs + polynomialValue w ds q zs)
+    append zs = residue-append positive k p q zs
 
-    -- where every difference passes, it is accepted
-    pub accepted-of-passes : T (accepts w ds v) → recoveryNumber total w support ds v out ≡ 0
-    accepted-of-passes t = number-eq ∙ verdict-accepted (accepts w ds v) .1 t
+    vanishing : (j : ℕ) → Cong (2 ^ w) (polynomialValue w ds p (grid j) + polynomialValue w ds q (grid j)) (polynomialValue w ds p (grid j))
+    vanishing j =
+        cong-trans
+        (cong-add-left (polynomialValue w ds p (grid j)) (fallingTerms-zero w k i n l (digits ds j) (suc-le-suc (within-at (digits-within ds j) i l))))
+        (cong-of-eq (2 ^ w) (add-zero _))
 
-    -- there is no third way
-    pub accepted-or-refused : (recoveryNumber total w support ds v out ≡ 0) ⊎ (recoveryNumber total w support ds v out ≡ 6)
-    accepted-or-refused = rw number-eq (go (accepts w ds v))
-      where
-        go : (b : Bool) → (verdict b ≡ 0) ⊎ (verdict b ≡ 6)
-        go true = inl refl
-        go false = inr refl
-
-  -- what an accepted call leaves in the output
-  module _ (accepted : recoveryNumber total w support ds v out ≡ 0) where
-    pub every-passes : T (accepts w ds v)
-    every-passes = verdict-accepted (accepts w ds v) .0 (sym (number-eq (accepted-passing accepted)) ∙ accepted)
-
-    pub accepted-left : recoveryLeft total w support ds v out ≡ answer w ds v
-    accepted-left = left-eq (accepted-passing accepted) ∙ go (accepts w ds v) every-passes
-      where
-        go : (b : Bool) → T b → cond b (answer w ds v) (tabulate (cells ds) (λ n. 0)) ≡ answer w ds v
-        go true t = refl
-        go false t = absurd t
-
-    -- 3: a normal form, with the value of every polynomial that agrees, at every point
-    pub accepted-normal : NormalForm w ds (recoveryLeft total w support ds v out)
-    accepted-normal = rw accepted-left (answer-normal w ds v)
-
-    pub accepted-values : (p : List Term) → Agreeing w ds v p → (zs : List ℤ)
-        → boxValue w ds (recoveryLeft total w support ds v out) zs ≡ polynomialValue w ds p zs
-    accepted-values p a zs = rw accepted-left (answer-values w ds v p a zs)
-
-    -- and the output has the lent values on the grid
-    pub accepted-agrees : (n : ℕ) → n < cells ds → boxValue w ds (recoveryLeft total w support ds v out) (map pos (digits ds n)) ≡ at v n % 2 ^ w
-    unfolding Agrees
-    accepted-agrees n p =
-        rw accepted-left (value-eq w ds (answer w ds v) (digits ds n) ∙ DemandThree.answer-agrees w ds v every-passes n p)
-
-    -- 4: every other normal form disagrees with the grid at some grid point, which is found
-    pub others-disagree : (c : List ℕ) → NormalForm w ds c → (c ≡ recoveryLeft total w support ds v out → ⊥) → Disagreement w ds c v
-    others-disagree c n ne = disagreement w ds v c (λ a. ne (answer-unique w ds v c n a ∙ sym accepted-left))
-
-  -- after 6 the output is zeroed, and every coefficient box disagrees with the grid
-  module _ (refused : recoveryNumber total w support ds v out ≡ 6) where
-    none-passes : T (accepts w ds v) → ⊥
-    none-passes = verdict-refused (accepts w ds v) .0 (sym (number-eq (refused-passing refused)) ∙ refused)
-
-    pub refused-left : recoveryLeft total w support ds v out ≡ tabulate (cells ds) (λ n. 0)
-    refused-left = left-eq (refused-passing refused) ∙ go (accepts w ds v) none-passes
-      where
-        go : (b : Bool) → (T b → ⊥) → cond b (answer w ds v) (tabulate (cells ds) (λ n. 0)) ≡ tabulate (cells ds) (λ n. 0)
-        go true f = absurd (f tt)
-        go false f = refl
-
-    pub all-disagree : (c : List ℕ) → Disagreement w ds c v
-    all-disagree c = disagreement w ds v c (λ a. none-passes (DemandThree.accepts-of-agrees w ds c v a))
+    nothing : polynomialValue w ds p (map pos (alone i n)) ≡ polynomialValue w ds (p ++ q) (map pos (alone i n))
+        → Cong (2 ^ w) (polynomialValue w ds q (map pos (alone i n))) 0
+    nothing e =
+        let P : ℕ = polynomialValue w ds p (map pos (alone i n)) in
+        let Q : ℕ = polynomialValue w ds q (map pos (alone i n)) in
+        cong-add-cancel P
+        (cong-trans (cong-of-eq (2 ^ w) (add-comm Q P)) (cong-trans (cong-sym (append (map pos (alone i n)))) (cong-of-eq (2 ^ w) (sym e ∙ sym (zero-add P)))))

@@ -4,10 +4,10 @@ use mathlib.Core.Logic.{_↔_}
 use Prim.Native.Nat.{ℕ, _^_}
 use mathlib.Core.List.{List}
 use lib.IntN.{ℤ}
-use Rattle.meaning.specs.Values.{bound, Normal, boxTotal}
+use Rattle.meaning.specs.Values.{bound, Normal}
 use Rattle.meaning.specs.Integers.{residue}
 use Rattle.meaning.specs.Polynomials.{Polynomial, polynomialAt, PolynomialAgrees}
-use Rattle.demand3.specs.Words.{polynomialValue, Agreeing, NormalForm, formTotal}
+use Rattle.demand3.specs.Words.{polynomialValue, Agreeing, NormalForm}
 
 -- values and agreement of polynomials
 pub polynomialValue-eq : (w : ℕ) (ds : List ℕ) (p : Polynomial ds) (zs : List ℤ)
@@ -19,11 +19,7 @@ pub agreeing-iff : (w : ℕ) (ds v : List ℕ) (p : Polynomial ds) → Polynomia
 unfolding PolynomialAgrees polynomialAt
 agreeing-iff w ds v p = (λ a. record { degrees = p .within; everywhere = a }, λ a. a .everywhere)
 
--- normal forms, and sums of boxes
+-- normal forms
 pub normal-iff : (w : ℕ) (ds c : List ℕ) → Normal w ds c ↔ NormalForm w ds c
 unfolding bound
 normal-iff w ds c = (λ n. record { whole = n .whole; below = n .below }, λ n. record { whole = n .whole; below = n .below })
-
-pub formTotal-eq : (w : ℕ) (ds a b : List ℕ) → boxTotal (bound w) ds a b ≡ formTotal w ds a b
-unfolding boxTotal bound
-formTotal-eq w ds a b = refl

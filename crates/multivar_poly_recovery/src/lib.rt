@@ -1,36 +1,16 @@
 // Recovery of a polynomial's coefficients from its values on a grid: Newton's differences, then each divided by the factorials of its exponents.
 ghost use mathlib.Core.Path.{_≡_};
-ghost use mathlib.Core.Bool.{cond};
-ghost use Prim.Native.Nat.{_≤_};
-ghost use lib.ListN.{length};
-ghost use Rattle.meaning.specs.Tables.{tabulate};
-ghost use Rattle.meaning.specs.Boxes.{cells};
-ghost use Rattle.meaning.specs.Recovery.{accepts, answer};
 ghost use Rattle.meaning.specs.Settings.{cube};
 ghost use Rattle.meaning.specs.Calls.{recoveryNumber, recoveryLeft};
+ghost use Rattle.demand3.specs.Settings.{Passing};
+ghost use Rattle.demand3.specs.Promises.{Decides};
 ghost use Rattle.answers.specs.Said.{saidNumber};
 
 mod differences;
 mod extraction;
+mod grid;
 
 use answers::Outcome;
-use answers::Refusal;
-
-// The coefficients of the box of `degrees`, or 6 and zeros.
-fn recover_from_grid(values: &[u64], degrees: &[u8], bitwidth: u32, out: &mut [u64]) -> Outcome
-    requires { ⌜ (length (now values) ≡ cells (now degrees)) × (length (now out) ≡ cells (now degrees)) × (bitwidth ≤ 64) ⌝ }
-    ensures says { λ r. ⌜ saidNumber r ≡ cond (accepts bitwidth (now (degrees .entry)) (now (values .entry))) 0 6 ⌝ }
-    ensures leaves { λ r. ⌜ now (out .exit) ≡ cond (accepts bitwidth (now (degrees .entry)) (now (values .entry)))
-        (answer bitwidth (now (degrees .entry)) (now (values .entry))) (tabulate (cells (now (degrees .entry))) (λ n. 0)) ⌝ }
-{
-    tables::copy(values, out);
-    differences::difference_all(out, degrees);
-    let inverses = math_utils::tables::odd_factorial_inverses();
-    if extraction::extract(out, degrees, bitwidth, &inverses) {
-        return Outcome::Accepted;
-    }
-    Outcome::Refused(Refusal::NotDivisible)
-}
 
 // Recovers the coefficients of the falling factorials from the values on the grid {0, .., max_degree} over the support variables, modulo 2^bitwidth.
 // `values` has a value for each grid point and `out` gets a coefficient for each exponent list, first support variable fastest; each coefficient is
@@ -47,12 +27,8 @@ pub fn recover_multivar_poly(
 ) -> Outcome
     ensures says { λ r. ⌜ saidNumber r ≡ recoveryNumber total bitwidth (now (support .entry)) (cube (now (support .entry)) «max_degree») (now (values .entry)) (now (out .entry)) ⌝ }
     ensures leaves { λ r. ⌜ now (out .exit) ≡ recoveryLeft total bitwidth (now (support .entry)) (cube (now (support .entry)) «max_degree») (now (values .entry)) (now (out .entry)) ⌝ }
+    ensures decides { λ r. ⌜ Decides (Passing 65536 total bitwidth (now (support .entry)) (cube (now (support .entry)) «max_degree») (now (values .entry)) (now (out .entry)))
+        bitwidth (cube (now (support .entry)) «max_degree») (now (values .entry)) (saidNumber r) (now (out .exit)) ⌝ }
 {
-    match poly::check_tables(true, support, total, bitwidth, max_degree, values, out) {
-        Outcome::Refused(refusal) => Outcome::Refused(refusal),
-        Outcome::Accepted => {
-            let degrees = [max_degree; 20];
-            recover_from_grid(values, &degrees[..support.len()], bitwidth, out)
-        }
-    }
+    grid::recover_checked(values, support, total, bitwidth, max_degree, out)
 }

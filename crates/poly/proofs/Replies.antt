@@ -9,31 +9,39 @@ use lib.ListN.{length}
 use Rattle.meaning.specs.Boxes.{cells}
 use Rattle.meaning.specs.Values.{value, bound, boxTotal, boxReduced}
 use Rattle.meaning.specs.Recovery.{every}
-use Rattle.meaning.specs.Replies.{accepted, refused, between}
+use Rattle.meaning.specs.Replies.{Reply, accepted, refused, between}
 use Rattle.meaning.specs.Settings.{callNumber, first}
 use Rattle.meaning.specs.Calls.{reply, truth, Form, formNumber, sameList, validReply, valueReply, sameReply, sumNumber, sumLeft, reduceNumber, reduceLeft, left}
 use Rattle.theory.specs.Settings.{passes}
 use Rattle.theory.specs.BoxBounds.{isBelow}
+use Rattle.demand3.specs.Settings.{ValuePasses, ValidPasses, SumPasses, ReducePasses}
+use Rattle.demand3.specs.Promises.{Valued, Judged, Summed, Reduced}
+use Rattle.demand3.specs.BoxCalls.{table-valued, judged, summed, reduced}
+use Rattle.demand3.specs.Also.{also, also₂}
 use Rattle.answers.specs.declared.Refusal.{Refusal}
 use Rattle.answers.specs.Said.{code}
 use Rattle.answers.specs.Laws.{Settled, Unsettled, unsettled-call, reply-code, first-code, turned-reply, turned-left, settled-number, length-reply, length-left, accepted-reply, accepted-left}
 
 -- ---- the value
 
+-- the reply, and what it promises
+abbrev ValueSaid : ℕ → ℕ → List ℕ → List ℕ → List ℕ → List ℕ → Reply → Type 0
+ValueSaid total w support ds c xs r = (r ≡ valueReply total w support ds c xs) × Valued (ValuePasses total w support ds c xs) w ds c xs r
+
 module _ (w : ℕ) (c xs : List ℕ) {total : ℕ} {support ds : List ℕ} where
-  pub value-turned : {r : Refusal} → Unsettled false total (between 2 64 w) support ds r → refused (code r) ≡ valueReply total w support ds c xs
+  pub value-turned : {r : Refusal} → Unsettled false total (between 2 64 w) support ds r → ValueSaid total w support ds c xs (refused (code r))
   unfolding valueReply
-  value-turned u = turned-reply u (eqb (length c) (cells ds) && eqb (length xs) (length support)) (value (2 ^ w) ds c xs)
+  value-turned u = also (table-valued total w support ds c xs) (turned-reply u (eqb (length c) (cells ds) && eqb (length xs) (length support)) (value (2 ^ w) ds c xs))
 
   module _ {count : ℕ} (s : Settled false total (between 2 64 w) support ds count) where
-    pub value-lengths : (eqb (length c) (cells ds) && eqb (length xs) (length support)) ≡ false → refused 9 ≡ valueReply total w support ds c xs
+    pub value-lengths : (eqb (length c) (cells ds) && eqb (length xs) (length support)) ≡ false → ValueSaid total w support ds c xs (refused 9)
     unfolding valueReply
-    value-lengths e = length-reply s (eqb (length c) (cells ds) && eqb (length xs) (length support)) e (value (2 ^ w) ds c xs)
+    value-lengths e = also (table-valued total w support ds c xs) (length-reply s (eqb (length c) (cells ds) && eqb (length xs) (length support)) e (value (2 ^ w) ds c xs))
 
     pub value-accepted : (eqb (length c) (cells ds) && eqb (length xs) (length support)) ≡ true
-        → {v : ℕ} → v ≡ value (2 ^ w) ds c xs → accepted v ≡ valueReply total w support ds c xs
+        → {v : ℕ} → v ≡ value (2 ^ w) ds c xs → ValueSaid total w support ds c xs (accepted v)
     unfolding valueReply
-    value-accepted e q = accepted-reply s (eqb (length c) (cells ds) && eqb (length xs) (length support)) e (value (2 ^ w) ds c xs) q
+    value-accepted e q = also (table-valued total w support ds c xs) (accepted-reply s (eqb (length c) (cells ds) && eqb (length xs) (length support)) e (value (2 ^ w) ds c xs) q)
 
 -- ---- validity
 
@@ -41,19 +49,22 @@ module _ (w : ℕ) (c xs : List ℕ) {total : ℕ} {support ds : List ℕ} where
 abbrev pub isNormal : ℕ → List ℕ → List ℕ → Bool
 isNormal w ds c = between 2 64 w && every (cells ds) (isBelow w ds c)
 
+abbrev ValidSaid : ℕ → ℕ → List ℕ → List ℕ → List ℕ → Reply → Type 0
+ValidSaid total w support ds c r = (r ≡ validReply total w support ds c) × Judged (ValidPasses total support ds c) w ds c r
+
 module _ (w : ℕ) (c : List ℕ) {total : ℕ} {support ds : List ℕ} where
-  pub valid-turned : {r : Refusal} → Unsettled false total true support ds r → refused (code r) ≡ validReply total w support ds c
+  pub valid-turned : {r : Refusal} → Unsettled false total true support ds r → ValidSaid total w support ds c (refused (code r))
   unfolding validReply
-  valid-turned u = turned-reply u (eqb (length c) (cells ds)) (truth (isNormal w ds c))
+  valid-turned u = also (judged w ds c total support) (turned-reply u (eqb (length c) (cells ds)) (truth (isNormal w ds c)))
 
   module _ {count : ℕ} (s : Settled false total true support ds count) where
-    pub valid-length : eqb (length c) (cells ds) ≡ false → refused 9 ≡ validReply total w support ds c
+    pub valid-length : eqb (length c) (cells ds) ≡ false → ValidSaid total w support ds c (refused 9)
     unfolding validReply
-    valid-length e = length-reply s (eqb (length c) (cells ds)) e (truth (isNormal w ds c))
+    valid-length e = also (judged w ds c total support) (length-reply s (eqb (length c) (cells ds)) e (truth (isNormal w ds c)))
 
-    pub valid-accepted : eqb (length c) (cells ds) ≡ true → (b : Bool) → isNormal w ds c ≡ b → accepted (truth b) ≡ validReply total w support ds c
+    pub valid-accepted : eqb (length c) (cells ds) ≡ true → (b : Bool) → isNormal w ds c ≡ b → ValidSaid total w support ds c (accepted (truth b))
     unfolding validReply
-    valid-accepted e b q = accepted-reply s (eqb (length c) (cells ds)) e (truth (isNormal w ds c)) (ap truth (sym q))
+    valid-accepted e b q = also (judged w ds c total support) (accepted-reply s (eqb (length c) (cells ds)) e (truth (isNormal w ds c)) (ap truth (sym q)))
 
 -- ---- calls that leave a table
 
@@ -75,39 +86,47 @@ module _ (exact : Bool) (done was : List ℕ) {total : ℕ} {fits : Bool} {suppo
     table-accepted e q = (sym (settled-number s exact true e), q ∙ accepted-left s exact e done was)
 
 -- the sum of two boxes
+abbrev SumSaid : ℕ → ℕ → List ℕ → List ℕ → List ℕ → List ℕ → List ℕ → ℕ → List ℕ → Type 0
+SumSaid total w support ds a b out n t =
+    (n ≡ sumNumber total w support ds a b out) × ((t ≡ sumLeft total w support ds a b out) × Summed (SumPasses total w support ds a b out) w ds a b n t)
+
 module _ (w : ℕ) (a b out : List ℕ) {total : ℕ} {support ds : List ℕ} where
   pub sum-turned : {r : Refusal} → Unsettled false total (between 2 64 w) support ds r
-      → (code r ≡ sumNumber total w support ds a b out) × (out ≡ sumLeft total w support ds a b out)
+      → SumSaid total w support ds a b out (code r) out
   unfolding sumNumber sumLeft
-  sum-turned u = table-turned (eqb (length a) (cells ds) && eqb (length b) (cells ds) && eqb (length out) (cells ds)) (boxTotal (bound w) ds a b) out u
+  sum-turned u = also₂ (summed total w support ds a b out) (table-turned (eqb (length a) (cells ds) && eqb (length b) (cells ds) && eqb (length out) (cells ds)) (boxTotal (bound w) ds a b) out u)
 
   module _ {count : ℕ} (s : Settled false total (between 2 64 w) support ds count) where
     pub sum-lengths : (eqb (length a) (cells ds) && eqb (length b) (cells ds) && eqb (length out) (cells ds)) ≡ false
-        → _≡_ {A = ℕ} 9 (sumNumber total w support ds a b out) × (out ≡ sumLeft total w support ds a b out)
+        → SumSaid total w support ds a b out 9 out
     unfolding sumNumber sumLeft
-    sum-lengths e = table-lengths (eqb (length a) (cells ds) && eqb (length b) (cells ds) && eqb (length out) (cells ds)) (boxTotal (bound w) ds a b) out s e
+    sum-lengths e = also₂ (summed total w support ds a b out) (table-lengths (eqb (length a) (cells ds) && eqb (length b) (cells ds) && eqb (length out) (cells ds)) (boxTotal (bound w) ds a b) out s e)
 
     pub sum-accepted : (eqb (length a) (cells ds) && eqb (length b) (cells ds) && eqb (length out) (cells ds)) ≡ true
-        → {t : List ℕ} → t ≡ boxTotal (bound w) ds a b → _≡_ {A = ℕ} 0 (sumNumber total w support ds a b out) × (t ≡ sumLeft total w support ds a b out)
+        → {t : List ℕ} → t ≡ boxTotal (bound w) ds a b → SumSaid total w support ds a b out 0 t
     unfolding sumNumber sumLeft
-    sum-accepted e q = table-accepted (eqb (length a) (cells ds) && eqb (length b) (cells ds) && eqb (length out) (cells ds)) (boxTotal (bound w) ds a b) out s e q
+    sum-accepted e q = also₂ (summed total w support ds a b out) (table-accepted (eqb (length a) (cells ds) && eqb (length b) (cells ds) && eqb (length out) (cells ds)) (boxTotal (bound w) ds a b) out s e q)
 
 -- coefficients taken modulo their bounds
+abbrev ReduceSaid : ℕ → ℕ → List ℕ → List ℕ → List ℕ → ℕ → List ℕ → Type 0
+ReduceSaid total w support ds c n t =
+    (n ≡ reduceNumber total w support ds c) × ((t ≡ reduceLeft total w support ds c) × Reduced (ReducePasses total w support ds c) w ds c n t)
+
 module _ (w : ℕ) (c : List ℕ) {total : ℕ} {support ds : List ℕ} where
   pub reduce-turned : {r : Refusal} → Unsettled false total (between 2 64 w) support ds r
-      → (code r ≡ reduceNumber total w support ds c) × (c ≡ reduceLeft total w support ds c)
+      → ReduceSaid total w support ds c (code r) c
   unfolding reduceNumber reduceLeft
-  reduce-turned u = table-turned (eqb (length c) (cells ds)) (boxReduced (bound w) ds c) c u
+  reduce-turned u = also₂ (reduced total w support ds c) (table-turned (eqb (length c) (cells ds)) (boxReduced (bound w) ds c) c u)
 
   module _ {count : ℕ} (s : Settled false total (between 2 64 w) support ds count) where
-    pub reduce-length : eqb (length c) (cells ds) ≡ false → _≡_ {A = ℕ} 9 (reduceNumber total w support ds c) × (c ≡ reduceLeft total w support ds c)
+    pub reduce-length : eqb (length c) (cells ds) ≡ false → ReduceSaid total w support ds c 9 c
     unfolding reduceNumber reduceLeft
-    reduce-length e = table-lengths (eqb (length c) (cells ds)) (boxReduced (bound w) ds c) c s e
+    reduce-length e = also₂ (reduced total w support ds c) (table-lengths (eqb (length c) (cells ds)) (boxReduced (bound w) ds c) c s e)
 
     pub reduce-accepted : eqb (length c) (cells ds) ≡ true → {t : List ℕ} → t ≡ boxReduced (bound w) ds c
-        → _≡_ {A = ℕ} 0 (reduceNumber total w support ds c) × (t ≡ reduceLeft total w support ds c)
+        → ReduceSaid total w support ds c 0 t
     unfolding reduceNumber reduceLeft
-    reduce-accepted e q = table-accepted (eqb (length c) (cells ds)) (boxReduced (bound w) ds c) c s e q
+    reduce-accepted e q = also₂ (reduced total w support ds c) (table-accepted (eqb (length c) (cells ds)) (boxReduced (bound w) ds c) c s e q)
 
 -- ---- sameness
 

@@ -2,6 +2,8 @@
 ghost use mathlib.Core.Path.{_≡_};
 ghost use Rattle.meaning.specs.Settings.{cube};
 ghost use Rattle.meaning.specs.Calls.{settingsReply, formNumber, validReply, sameReply, sameList, valueReply, sumNumber, sumLeft, inOutNumber, reduceNumber, reduceLeft};
+ghost use Rattle.demand3.specs.Settings.{ValuePasses, ValidPasses, SumPasses, ReducePasses};
+ghost use Rattle.demand3.specs.Promises.{Valued, Judged, Summed, Reduced};
 ghost use Rattle.answers.specs.Said.{said, saidNumber, saidTruth};
 ghost use Rattle.poly.specs.Forms.{cubeForm};
 
@@ -31,7 +33,9 @@ pub fn settings(strict: bool, support: &[u64], total: u32, bitwidth: u32, max_de
 // factorials of its exponents, so that it is 0 where q is the width or more. A bad width is a no. Refused for 1, 2, 5, 7, 8, and 9 where there is not
 // one coefficient for each cell. Nothing is altered.
 pub fn is_valid(coeffs: &[u64], support: &[u64], total: u32, bitwidth: u32, max_degree: u8) -> Truth
-    ensures { λ r. ⌜ saidTruth r ≡ validReply total bitwidth (now (support .entry)) (cube (now (support .entry)) «max_degree») (now (coeffs .entry)) ⌝ }
+    ensures says { λ r. ⌜ saidTruth r ≡ validReply total bitwidth (now (support .entry)) (cube (now (support .entry)) «max_degree») (now (coeffs .entry)) ⌝ }
+    ensures judges { λ r. ⌜ Judged (ValidPasses total (now (support .entry)) (cube (now (support .entry)) «max_degree») (now (coeffs .entry)))
+        bitwidth (cube (now (support .entry)) «max_degree») (now (coeffs .entry)) (saidTruth r) ⌝ }
 {
     match checks::check(false, support, total, true, max_degree) {
         Number::Refused(refusal) => Truth::Refused(refusal),
@@ -62,8 +66,10 @@ pub fn value(
     max_degree: u8,
     point: &[u64],
 ) -> Number
-    ensures { λ r. ⌜ said r ≡ valueReply total bitwidth (now (support .entry)) (cube (now (support .entry)) «max_degree») (now (coeffs .entry))
+    ensures says { λ r. ⌜ said r ≡ valueReply total bitwidth (now (support .entry)) (cube (now (support .entry)) «max_degree») (now (coeffs .entry))
         (now (point .entry)) ⌝ }
+    ensures values { λ r. ⌜ Valued (ValuePasses total bitwidth (now (support .entry)) (cube (now (support .entry)) «max_degree») (now (coeffs .entry)) (now (point .entry)))
+        bitwidth (cube (now (support .entry)) «max_degree») (now (coeffs .entry)) (now (point .entry)) (said r) ⌝ }
 {
     match settings(false, support, total, bitwidth, max_degree) {
         Number::Refused(refusal) => Number::Refused(refusal),
@@ -96,6 +102,8 @@ pub fn sum(
         (now (b .entry)) (now (out .entry)) ⌝ }
     ensures leaves { λ r. ⌜ now (out .exit) ≡ sumLeft total bitwidth (now (support .entry)) (cube (now (support .entry)) «max_degree»)
         (now (a .entry)) (now (b .entry)) (now (out .entry)) ⌝ }
+    ensures sums { λ r. ⌜ Summed (SumPasses total bitwidth (now (support .entry)) (cube (now (support .entry)) «max_degree») (now (a .entry)) (now (b .entry))
+        (now (out .entry))) bitwidth (cube (now (support .entry)) «max_degree») (now (a .entry)) (now (b .entry)) (saidNumber r) (now (out .exit)) ⌝ }
 {
     match settings(false, support, total, bitwidth, max_degree) {
         Number::Refused(refusal) => Outcome::Refused(refusal),
@@ -235,6 +243,8 @@ pub fn reduce(
     ensures says { λ r. ⌜ saidNumber r ≡ reduceNumber total bitwidth (now (support .entry)) (cube (now (support .entry)) «max_degree») (now (coeffs .entry)) ⌝ }
     ensures leaves { λ r. ⌜ now (coeffs .exit) ≡ reduceLeft total bitwidth (now (support .entry)) (cube (now (support .entry)) «max_degree»)
         (now (coeffs .entry)) ⌝ }
+    ensures reduces { λ r. ⌜ Reduced (ReducePasses total bitwidth (now (support .entry)) (cube (now (support .entry)) «max_degree») (now (coeffs .entry)))
+        bitwidth (cube (now (support .entry)) «max_degree») (now (coeffs .entry)) (saidNumber r) (now (coeffs .exit)) ⌝ }
 {
     match settings(false, support, total, bitwidth, max_degree) {
         Number::Refused(refusal) => Outcome::Refused(refusal),

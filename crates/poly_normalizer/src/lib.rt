@@ -4,6 +4,8 @@ ghost use mathlib.Core.Bool.{false};
 ghost use Rattle.meaning.specs.Settings.{cube};
 ghost use Rattle.meaning.specs.Conversions.{normalBox};
 ghost use Rattle.meaning.specs.Calls.{inOutNumber, convertLeft};
+ghost use Rattle.demand3.specs.Settings.{ConvertPasses};
+ghost use Rattle.demand3.specs.Promises.{Normalised};
 ghost use Rattle.answers.specs.Said.{saidNumber};
 use answers::Outcome;
 
@@ -22,6 +24,8 @@ pub fn normalize_polynomial(
     ensures says { λ r. ⌜ saidNumber r ≡ inOutNumber false total bitwidth (now (support .entry)) (cube (now (support .entry)) «max_degree») (now (coeffs .entry)) (now (out .entry)) ⌝ }
     ensures leaves { λ r. ⌜ now (out .exit) ≡ convertLeft total bitwidth (now (support .entry)) (cube (now (support .entry)) «max_degree») (now (coeffs .entry)) (now (out .entry))
         (normalBox bitwidth (cube (now (support .entry)) «max_degree») (now (coeffs .entry))) ⌝ }
+    ensures normalises { λ r. ⌜ Normalised (ConvertPasses total bitwidth (now (support .entry)) (cube (now (support .entry)) «max_degree») (now (coeffs .entry)) (now (out .entry)))
+        bitwidth (cube (now (support .entry)) «max_degree») (now (coeffs .entry)) (saidNumber r) (now (out .exit)) ⌝ }
 {
     match basis_transform::to_factorial_basis(coeffs, support, total, bitwidth, max_degree, out) {
         Outcome::Refused(refusal) => Outcome::Refused(refusal),

@@ -10,7 +10,7 @@ use lib.Pow.{pow-pos, pow-add}
 use Rattle.meaning.specs.Tables.{tabulate, at}
 use Rattle.meaning.specs.Factorials.{falling}
 use Rattle.meaning.specs.Boxes.{cells, digits, along}
-use Rattle.meaning.specs.Values.{value, bound, Normal}
+use Rattle.meaning.specs.Values.{value, bound, Bounded, Normal}
 use Rattle.meaning.specs.Differences.{grid}
 use Rattle.meaning.specs.Stirling.{stirling1, stirling2, fallingLine, powerLine}
 use Rattle.meaning.specs.Conversions.{fallingBox, powerBox, normalBox}
@@ -22,7 +22,7 @@ use Rattle.theory.specs.StirlingNumbers.{signed, stirling2-mul-signed, s
 use Rattle.theory.specs.Evaluation.{eval, eval-cong, value-eq-eval}
 use Rattle.theory.specs.Values.{entry}
 use Rattle.theory.specs.BoxConversions.{eval-falling-along, eval-power-along}
-use Rattle.theory.specs.MatrixLines.{Undoes, grid-cong, entry-matrixBox, matrixBox-of-mul, matrixBox-undo}
+use Rattle.theory.specs.MatrixLines.{Undoes, grid-cong, entry-matrixBox, matrixBox-bounded, matrixBox-of-mul, matrixBox-undo}
 use Rattle.theory.specs.Widths.{bound-pos}
 use Rattle.theory.specs.DemandThree.{value-cong-normal, normal-eq-of-values}
 
@@ -81,6 +81,15 @@ module _ {m : ℕ} (positive : 0 < m) where
     pub fallingBox-powerBox : fallingBox m ds (powerBox m ds c) ≡ tabulate (cells ds) (λ i. at c i % m)
     unfolding powerBox powerLine fallingBox fallingLine
     fallingBox-powerBox = matrixBox-undo toFalling (toPower m) ds c positive falling-undoes
+
+    -- every coefficient is below m
+    pub fallingBox-bounded : Bounded (λ es. m) ds (fallingBox m ds c)
+    unfolding fallingBox fallingLine
+    fallingBox-bounded = matrixBox-bounded toFalling ds c positive
+
+    pub powerBox-bounded : Bounded (λ es. m) ds (powerBox m ds c)
+    unfolding powerBox powerLine
+    powerBox-bounded = matrixBox-bounded (toPower m) ds c positive
 
 -- ---- no value changes
 

@@ -33,6 +33,9 @@ pub mod BoxConversions
 pub mod PowerBoxes
 pub mod WholeNumbers
 pub mod MatrixLines
+pub mod CutPolynomials
+pub mod DecidingGrids
+pub mod OpenGrids
 pub mod ConversionLaws
 pub mod WordDifferences
 pub mod Indices

@@ -8,9 +8,10 @@ use mathlib.Core.List.{List, [], _∷_}
 use Rattle.meaning.specs.Tables.{tabulate, at}
 use Rattle.meaning.specs.Sums.{sum}
 use Rattle.meaning.specs.Boxes.{cells, digits, Within, none, next, along}
+use Rattle.meaning.specs.Values.{Bounded}
 use Rattle.meaning.specs.Differences.{grid}
 use Rattle.theory.specs.Congruence.{Cong, cong-of-eq, cong-sym, cong-trans, cong-of-mul, mod-cong, eq-of-cong}
-use Rattle.theory.specs.Tables.{tabulate-cong}
+use Rattle.theory.specs.Tables.{tabulate-cong, length-tabulate, at-tabulate}
 use Rattle.theory.specs.Boxes.{digits-within, cell-digits}
 use Rattle.theory.specs.FlatTables.{Line}
 use Rattle.theory.specs.StirlingNumbers.{delta, sum-delta}
@@ -93,6 +94,13 @@ entry-matrixBox t m ds c es w = entry-tabulate ds (along (matrixLine t m) ds (gr
 
 matrixBox-lt : {m : ℕ} (t : ℕ → ℕ → ℕ) (ds c es : List ℕ) → 0 < m → Within ds es → along (matrixLine t m) ds (grid m ds c) es < m
 matrixBox-lt {m} t ds c es pos w = along-lt t (grid m ds c) pos (λ xs. grid-lt ds c xs pos) w
+
+pub matrixBox-bounded : {m : ℕ} (t : ℕ → ℕ → ℕ) (ds c : List ℕ) → 0 < m → Bounded (λ es. m) ds (matrixBox t m ds c)
+matrixBox-bounded t ds c pos =
+    record {
+      whole = length-tabulate (cells ds) _;
+      below = λ n l. rw (at-tabulate (cells ds) _ n l) (matrixBox-lt t ds c (digits ds n) pos (digits-within ds n));
+    }
 
 -- a box transformed modulo a multiple of n, cell by cell and then reduced
 module _ (n k : ℕ) (t s : ℕ → ℕ → ℕ) (same : (j e : ℕ) → Cong n (t j e) (s j e)) (ds c : List ℕ) where

@@ -71,7 +71,7 @@ polynomialOf ds a =
 
 module _ {m : ℕ} (positive : 0 < m) where
   -- the residue of a term
-  residue-term : (k : ℕ) (t : Term) (zs : List ℤ)
+  pub residue-term : (k : ℕ) (t : Term) (zs : List ℤ)
       → Cong m (residue m (t .coefficient *ℤ productℤ powerℤ k zs (t .exponents)))
       (product _^_ k (map (residue m) zs) (t .exponents) * residue m (t .coefficient))
   residue-term k t zs =
@@ -93,7 +93,7 @@ module _ {m : ℕ} (positive : 0 < m) where
       ∙ ap (_+ eval _^_ ds (gathered m (length ds) ts) (map (residue m) zs)) (eval-one _^_ (residue m (t .coefficient)) (map (residue m) zs) w)))))
 
   -- the residue of terms given by a rule is the sum of theirs
-  residue-termsOf : (k n : ℕ) (f : ℕ → Term) (zs : List ℤ)
+  pub residue-termsOf : (k n : ℕ) (f : ℕ → Term) (zs : List ℤ)
       → Cong m (residue m (termsAt k (termsOf n f) zs))
       (sum n (λ i. product _^_ k (map (residue m) zs) (f i .exponents) * residue m (f i .coefficient)))
   unfolding termsAt termsOf sum

@@ -24,5 +24,5 @@ recover-in-spec =
     let number : List ℕ → List ℕ → ℕ = λ s v. recoveryNumber (k .total) (k .width) s (cube s (k .degree)) v (now (k .found)) in
     let box : List ℕ → List ℕ → List ℕ = λ s v. recoveryLeft (k .total) (k .width) s (cube s (k .degree)) v (now (k .found)) in (
       r .recover-multivar-poly .ensures .0 ∙ ap₂ number (s .decode .ensures) (v .decode2 .ensures),
-      c .before .before .encode .ensures ∙ ap encoded (r .recover-multivar-poly .ensures .1 ∙ ap₂ box (s .decode .ensures) (v .decode2 .ensures)),
+      c .before .before .encode .ensures ∙ ap encoded (r .recover-multivar-poly .ensures .1 .0 ∙ ap₂ box (s .decode .ensures) (v .decode2 .ensures)),
     )))

@@ -23,6 +23,6 @@ value-in-spec =
     let s = v .before .before .before .before in
     let k = s .before .before .before .before .before .before .before .before .args in
     let found : List ℕ → List ℕ → List ℕ → Reply = λ s v x. valueReply (k .total) (k .width) s (cube s (k .degree)) v x in
-    c .value .ensures
+    c .value .ensures .0
     ∙ ap₂ (λ (s v : List ℕ). found s v (p .decode3 .last .1 .0)) (s .decode .ensures) (v .decode2 .ensures)
     ∙ ap (found (decoded (now (k .support))) (decoded (now (k .coeffs)))) (p .decode3 .ensures)))

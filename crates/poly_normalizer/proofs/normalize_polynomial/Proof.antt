@@ -6,6 +6,8 @@ use denote.Ref.{now}
 use Rattle.meaning.specs.Settings.{cube}
 use Rattle.meaning.specs.Conversions.{normalBox}
 use Rattle.meaning.specs.Calls.{convertLeft, left}
+use Rattle.demand3.specs.Also.{also₂}
+use Rattle.demand3.specs.BoxCalls.{normalised}
 use Rattle.answers.specs.Said.{saidNumber}
 use Rattle.answers.specs.Laws.{left-code}
 use Rattle.theory.specs.NormalCalls.{reduce-accepted, reduce-normal}
@@ -31,9 +33,11 @@ returns : tie.Need-returns
 unfolding convertLeft
 returns c =
     let b = c .before .before .before .before .before in
+    let k = b .before .before .before .before .before .args in
     let r = c .before .refusal .given .0 .0 in
     let n = sym (b .to-factorial-basis .ensures .0) ∙ ap saidNumber (c .before .refusal .given .1) in
-    (sym n, b .to-factorial-basis .ensures .1 ∙ left-code r _ _ n ∙ sym (left-code r _ _ n))
+    let ds = cube (now (k .support)) (k .max-degree) in
+    also₂ (normalised (k .total) (k .bitwidth) (now (k .support)) ds (now (k .coeffs)) (now (k .out))) (sym n, b .to-factorial-basis .ensures .1 .0 ∙ left-code r _ _ n ∙ sym (left-code r _ _ n))
 
 same-length-2 : tie.Need-same-length-2
 same-length-2 c = search needs
@@ -46,10 +50,11 @@ returns-2 c =
     let k = b .before .before .before .before .before .args in
     let n = sym (b .to-factorial-basis .ensures .0) ∙ ap saidNumber (e .enum-told .given .1) in
     let ds = cube (now (k .support)) (k .max-degree) in
-    let r = c .before .before .reduce in (
-      r .ensures .0 ∙ reduce-accepted (k .total) (k .bitwidth) (now (k .support)) ds (now (k .coeffs)) (now (k .out)) _ n (b .to-factorial-basis .ensures .1) ∙ sym n,
-      r .ensures .1
-          ∙ reduce-normal (k .total) (k .bitwidth) (now (k .support)) ds (now (k .coeffs)) (now (k .out)) _ n (b .to-factorial-basis .ensures .1)
+    let r = c .before .before .reduce in
+    also₂ (normalised (k .total) (k .bitwidth) (now (k .support)) ds (now (k .coeffs)) (now (k .out))) (
+      r .ensures .0 ∙ reduce-accepted (k .total) (k .bitwidth) (now (k .support)) ds (now (k .coeffs)) (now (k .out)) _ n (b .to-factorial-basis .ensures .1 .0) ∙ sym n,
+      r .ensures .1 .0
+          ∙ reduce-normal (k .total) (k .bitwidth) (now (k .support)) ds (now (k .coeffs)) (now (k .out)) _ n (b .to-factorial-basis .ensures .1 .0)
           ∙ ap (λ (i : ℕ). left i (normalBox (k .bitwidth) ds (now (k .coeffs))) (now (k .out))) (sym n),
     )
 

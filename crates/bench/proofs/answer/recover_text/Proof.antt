@@ -20,7 +20,7 @@ returns c =
     let n = q .before .before .before .narrow in
     let k = q .before .before .before .before .before .before .before .before .args in
     let e = text-after (k .width) (k .total) (k .degree) (now (k .support)) (k .reading) (k .settings) (k .exact) (now (k .values)) (now (k .coefficients))
-    (n .result) (m .result) (o .result) (v .result) _ (n .ensures) (m .ensures) (o .ensures ∙ r .ensures .0) (r .ensures .1) (v .ensures) in
+    (n .result) (m .result) (o .result) (v .result) _ (n .ensures) (m .ensures) (o .ensures ∙ r .ensures .0) (r .ensures .1 .0) (v .ensures) in
     (w .ensures .0 ∙ ap (λ (x : List ℕ). printedSize x (now (k .out))) e, w .ensures .1 ∙ ap (λ (x : List ℕ). printed x (now (k .out))) e)
 
 pub recover-text-spec : {M : Type 1} → statement M

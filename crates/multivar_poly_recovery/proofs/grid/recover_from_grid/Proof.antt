@@ -8,8 +8,8 @@ use Rattle.meaning.specs.Tables.{tabulate}
 use Rattle.meaning.specs.Boxes.{cells}
 use Rattle.meaning.specs.Recovery.{accepts, answer}
 use Rattle.theory.specs.WordDifferences.{recovered-of-steps}
-use Rattle.multivar_poly_recovery.proofs.recover_from_grid.Statement.{statement}
-use Rattle.multivar_poly_recovery.proofs.recover_from_grid.Tie as tie
+use Rattle.multivar_poly_recovery.proofs.grid.recover_from_grid.Statement.{statement}
+use Rattle.multivar_poly_recovery.proofs.grid.recover_from_grid.Tie as tie
 
 copy-requires : tie.Need-copy-requires
 copy-requires c κs = search needs

@@ -1,0 +1,3 @@
+-- The statements about several calls, from the promises of each.
+pub mod Together
+pub mod RoundTrips

@@ -1,0 +1,263 @@
+-- The calls on boxes keep their promises: each follows from the equations of the call's contract.
+use mathlib.Core.Path.{_≡_, refl, sym, subst, ap, ap₂, _∙_}
+use mathlib.Core.Logic.{_⊎_, inl, inr, _↔_}
+use mathlib.Core.Bool.{Bool, true, false, _&&_, cond}
+use Prim.Native.Nat.{ℕ, zero, suc, _+_, _%_, _^_, _<_}
+use mathlib.Core.List.{List, [], _∷_, map}
+use native.Mathlib.Nat.{zero-mod, mod-lt}
+use borrow.Author.Tests.{ltb-true, lt-ltb, eqb-true, eq-eqb}
+use lib.Dec.{T, ltb, eqb}
+use lib.Pow.{pow-pos}
+use lib.IntN.{ℤ, pos}
+use lib.ListN.{length, getD}
+use Rattle.meaning.specs.Tables.{tabulate, at}
+use Rattle.meaning.specs.Boxes.{cells, digits}
+use Rattle.meaning.specs.Values.{value, bound, Normal, boxTotal, boxReduced}
+use Rattle.meaning.specs.Integers.{residue}
+use Rattle.meaning.specs.Polynomials.{Term}
+use Rattle.meaning.specs.Conversions.{fallingBox, powerBox, normalBox}
+use Rattle.meaning.specs.Recovery.{every}
+use Rattle.meaning.specs.Replies.{Reply, between}
+use Rattle.meaning.specs.Settings.{callNumber}
+use Rattle.meaning.specs.Calls.{reply, left, truth, validReply, valueReply, inOutNumber, sumNumber, sumLeft, reduceNumber, reduceLeft, convertLeft}
+use Rattle.theory.specs.Congruence.{cong-of-eq, cong-sym, cong-trans, mod-cong}
+use Rattle.theory.specs.Every.{every-iff}
+use Rattle.theory.specs.Tables.{length-tabulate, at-tabulate}
+use Rattle.theory.specs.Integers.{residue-boxAt}
+use Rattle.theory.specs.Values.{value-cong-point}
+use Rattle.theory.specs.DemandThree.{value-total, value-cong-normal}
+use Rattle.theory.specs.ConversionLaws.{value-fallingBox, eval-powerBox, fallingBox-bounded, powerBox-bounded}
+use Rattle.theory.specs.Widths.{bound-pos}
+use Rattle.demand3.specs.Words.{polynomialValue, boxValue, PointOf, NormalForm, NormalFormOf, SumOf, Coefficients}
+use Rattle.demand3.specs.Tests.{and-true, false-true, suc-zero}
+use Rattle.demand3.specs.Settings.{WidthFits, BoxPasses, ValuePasses, ReducePasses, ConvertPasses, SumPasses, ValidPasses, width-iff, call-iff}
+use Rattle.demand3.specs.Promises.{Valued, Summed, Reduced, Judged, ToFalling, ToPowers, Normalised}
+use Rattle.demand3.specs.SameWords.{normal-iff}
+use Rattle.demand3.specs.Coefficients.{value-coefficients}
+use Rattle.demand3.specs.NormalForms.{normalBox-of, normal-form-unique}
+
+-- ---- replies
+
+reply-number : (n v : ℕ) → reply n v .number ≡ n
+reply-number zero v = refl
+reply-number (suc n) v = refl
+
+reply-value : (n v : ℕ) → n ≡ 0 → reply n v .value ≡ v
+reply-value n v e = rw e refl
+
+-- a number that is the cause is 0 where the cause is
+accepted-iff : {C : Type 0} {cause number : ℕ} → (cause ≡ 0) ↔ C → number ≡ cause → (number ≡ 0) ↔ C
+accepted-iff conditions e = (λ z. conditions .0 (sym e ∙ z), λ c. e ∙ conditions .1 c)
+
+-- ---- the value
+
+residue-at : (m : ℕ) (zs : List ℤ) (i : ℕ) → at (map (residue m) zs) i ≡ residue m (getD zs i (pos 0))
+unfolding residue
+residue-at m [] i = sym (zero-mod m)
+residue-at m (z ∷ zs) zero = refl
+residue-at m (z ∷ zs) (suc i) = residue-at m zs i
+
+value-at : (w : ℕ) (ds c xs : List ℕ) (zs : List ℤ) → PointOf w ds xs zs → value (2 ^ w) ds c xs ≡ boxValue w ds c zs
+value-at w ds c xs zs h =
+    value-cong-point (2 ^ w) ds c xs (map (residue (2 ^ w)) zs)
+    (λ i l. cong-trans (cong-sym (mod-cong (2 ^ w) (at xs i))) (cong-of-eq (2 ^ w) (sym (h i l) ∙ sym (residue-at (2 ^ w) zs i))))
+    ∙ sym (residue-boxAt (pow-pos w) ds c zs)
+
+-- whatever the causes of refusal are
+pub valued : {C : Type 0} (w : ℕ) (ds c xs : List ℕ) (cause : ℕ) → (cause ≡ 0) ↔ C → {answer : Reply}
+    → answer ≡ reply cause (value (2 ^ w) ds c xs) → Valued C w ds c xs answer
+valued w ds c xs cause conditions e =
+    let n = ap (λ (r : Reply). r .number) e ∙ reply-number cause (value (2 ^ w) ds c xs) in
+    record {
+      accepted = accepted-iff conditions n;
+      values = λ z zs h. ap (λ (r : Reply). r .value) e ∙ reply-value cause _ (sym n ∙ z) ∙ value-at w ds c xs zs h;
+    }
+
+-- ---- boxes
+
+total-normal : (w : ℕ) (ds a b : List ℕ) → Normal w ds (boxTotal (bound w) ds a b)
+unfolding boxTotal
+total-normal w ds a b =
+    record {
+      whole = length-tabulate (cells ds) _;
+      below = λ n l. rw (at-tabulate (cells ds) _ n l) (mod-lt (at a n + at b n) (bound-pos w (digits ds n)));
+    }
+
+total-sum : (w : ℕ) (ds a b : List ℕ) → SumOf w ds a b (boxTotal (bound w) ds a b)
+total-sum w ds a b =
+    record {
+      normal = normal-iff w ds (boxTotal (bound w) ds a b) .0 (total-normal w ds a b);
+      values = λ zs.
+          residue-boxAt (pow-pos w) ds (boxTotal (bound w) ds a b) zs
+          ∙ value-total w ds a b (map (residue (2 ^ w)) zs)
+          ∙ sym (ap₂ (λ (x y : ℕ). (x + y) % 2 ^ w) (residue-boxAt (pow-pos w) ds a zs) (residue-boxAt (pow-pos w) ds b zs));
+    }
+
+reduced-normal : (w : ℕ) (ds c : List ℕ) → Normal w ds (boxReduced (bound w) ds c)
+unfolding boxReduced
+reduced-normal w ds c =
+    record {
+      whole = length-tabulate (cells ds) _;
+      below = λ n l. rw (at-tabulate (cells ds) _ n l) (mod-lt (at c n) (bound-pos w (digits ds n)));
+    }
+
+reduced-value : (w : ℕ) (ds c : List ℕ) (zs : List ℤ) → boxValue w ds (boxReduced (bound w) ds c) zs ≡ boxValue w ds c zs
+unfolding boxReduced
+reduced-value w ds c zs =
+    residue-boxAt (pow-pos w) ds (boxReduced (bound w) ds c) zs
+    ∙ value-cong-normal w ds (boxReduced (bound w) ds c) c (map (residue (2 ^ w)) zs)
+    (λ n l. cong-trans (cong-of-eq _ (at-tabulate (cells ds) _ n l)) (mod-cong _ (at c n)))
+    ∙ sym (residue-boxAt (pow-pos w) ds c zs)
+
+-- ---- settings and lengths
+
+both-iff : (a b n : ℕ) → (c : ℕ) → (eqb a n && eqb b c ≡ true) ↔ ((a ≡ n) × (b ≡ c))
+both-iff a b n c =
+    let both = and-true (eqb a n) (eqb b c) in
+    (λ e. (eqb-true a n (both .0 e .0), eqb-true b c (both .0 e .1)), λ e. both .1 (eq-eqb a n (e .0), eq-eqb b c (e .1)))
+
+module _ (total w : ℕ) (support ds : List ℕ) where
+  passes-iff : {L : Type 0} (exact : Bool) → (exact ≡ true) ↔ L
+      → (callNumber false total (between 2 64 w) support ds exact ≡ 0) ↔ (BoxPasses total w support ds × L)
+  passes-iff exact lengths =
+      let all = call-iff false total (between 2 64 w) support ds exact in (
+        λ e. let s = all .0 e in ((s .0, width-iff w .0 (s .1)), lengths .0 (s .3)),
+        λ s. all .1 (s .0 .0, width-iff w .1 (s .0 .1), λ h. false-true (sym h), lengths .1 (s .1)),
+      )
+
+  -- the value on tables of numbers
+  pub table-valued : (c xs : List ℕ) {answer : Reply} → answer ≡ valueReply total w support ds c xs → Valued (ValuePasses total w support ds c xs) w ds c xs answer
+  unfolding valueReply
+  table-valued c xs e = valued w ds c xs _ (passes-iff _ (both-iff (length c) (length xs) (cells ds) (length support))) e
+
+  convert-iff : (c out : List ℕ) → (inOutNumber false total w support ds c out ≡ 0) ↔ ConvertPasses total w support ds c out
+  convert-iff c out = passes-iff _ (both-iff (length c) (length out) (cells ds) (cells ds))
+
+  -- the sum
+  sum-iff : (a b out : List ℕ) → (sumNumber total w support ds a b out ≡ 0) ↔ SumPasses total w support ds a b out
+  unfolding sumNumber
+  sum-iff a b out =
+      let two = both-iff (length a) (length b) (cells ds) (cells ds) in
+      let all = and-true (eqb (length a) (cells ds) && eqb (length b) (cells ds)) (eqb (length out) (cells ds)) in
+      passes-iff _ (
+        λ e. let s = all .0 e in let t = two .0 (s .0) in (t .0, t .1, eqb-true (length out) (cells ds) (s .1)),
+        λ s. all .1 (two .1 (s .0, s .1), eq-eqb (length out) (cells ds) (s .2)),
+      )
+
+  pub summed : (a b out : List ℕ) {number : ℕ} {after : List ℕ} → number ≡ sumNumber total w support ds a b out
+      → after ≡ sumLeft total w support ds a b out → Summed (SumPasses total w support ds a b out) w ds a b number after
+  unfolding sumLeft
+  summed a b out e f =
+      record {
+        accepted = accepted-iff (sum-iff a b out) e;
+        sum = λ z. rw (f ∙ ap (λ (k : ℕ). left k (boxTotal (bound w) ds a b) out) (sym e ∙ z)) (total-sum w ds a b);
+      }
+
+  -- reduction in place
+  pub reduced : (c : List ℕ) {number : ℕ} {after : List ℕ} → number ≡ reduceNumber total w support ds c → after ≡ reduceLeft total w support ds c
+      → Reduced (ReducePasses total w support ds c) w ds c number after
+  unfolding reduceNumber reduceLeft
+  reduced c {number} {after} e f =
+      record {
+        accepted = accepted-iff (passes-iff _ (λ x. eqb-true (length c) (cells ds) x, λ x. eq-eqb (length c) (cells ds) x)) e;
+        normal = λ z. rw (after-0 z) (normal-iff w ds (boxReduced (bound w) ds c) .0 (reduced-normal w ds c));
+        values = λ z zs. rw (after-0 z) (reduced-value w ds c zs);
+      }
+    where
+      after-0 : number ≡ 0 → after ≡ boxReduced (bound w) ds c
+      after-0 z = f ∙ ap (λ (k : ℕ). left k (boxReduced (bound w) ds c) c) (sym e ∙ z)
+
+  -- ---- conversions
+
+  module _ (c out : List ℕ) {number : ℕ} {after : List ℕ} (e : number ≡ inOutNumber false total w support ds c out) where
+    -- what is left after 0
+    after-0 : (box : List ℕ) → after ≡ convertLeft total w support ds c out box → number ≡ 0 → after ≡ box
+    unfolding convertLeft
+    after-0 box f z = f ∙ ap (λ (k : ℕ). left k box out) (sym e ∙ z)
+
+    pub to-falling : after ≡ convertLeft total w support ds c out (fallingBox (2 ^ w) ds c) → ToFalling (ConvertPasses total w support ds c out) w ds c number after
+    to-falling f =
+        record {
+          accepted = accepted-iff (convert-iff c out) e;
+          whole = λ z. rw (after-0 _ f z) (fallingBox-bounded (pow-pos w) ds c .whole);
+          below = λ z. rw (after-0 _ f z) (fallingBox-bounded (pow-pos w) ds c .below);
+          values = λ z p h zs.
+              rw (after-0 _ f z) (
+              residue-boxAt (pow-pos w) ds (fallingBox (2 ^ w) ds c) zs
+              ∙ value-fallingBox (2 ^ w) ds c (map (residue (2 ^ w)) zs)
+              ∙ sym (value-coefficients w ds p c h zs)
+              );
+        }
+
+    pub to-powers : after ≡ convertLeft total w support ds c out (powerBox (2 ^ w) ds c) → ToPowers (ConvertPasses total w support ds c out) w ds c number after
+    to-powers f =
+        record {
+          accepted = accepted-iff (convert-iff c out) e;
+          whole = λ z. rw (after-0 _ f z) (powerBox-bounded (pow-pos w) ds c .whole);
+          below = λ z. rw (after-0 _ f z) (powerBox-bounded (pow-pos w) ds c .below);
+          values = λ z p h zs.
+              value-coefficients w ds p (powerBox (2 ^ w) ds c) (rw (sym (after-0 _ f z)) h) zs
+              ∙ eval-powerBox (2 ^ w) ds c (map (residue (2 ^ w)) zs) (pow-pos w)
+              ∙ sym (residue-boxAt (pow-pos w) ds c zs);
+        }
+
+    -- the normal form
+    pub normalised : after ≡ convertLeft total w support ds c out (normalBox w ds c) → Normalised (ConvertPasses total w support ds c out) w ds c number after
+    normalised f =
+        record {
+          accepted = accepted-iff (convert-iff c out) e;
+          form = λ z p h. rw (after-0 _ f z) (normalBox-of w ds p c h);
+          only = λ z p h d n. normal-form-unique w ds p d (normalBox w ds c) n (normalBox-of w ds p c h) ∙ sym (after-0 _ f z);
+        }
+
+-- ---- validity
+
+true-of : (b : Bool) → T b → b ≡ true
+true-of true t = refl
+true-of false t = absurd t
+
+truth-iff : (b : Bool) → (truth b ≡ 1) ↔ (b ≡ true)
+truth-iff true = (λ e. refl, λ e. refl)
+truth-iff false = (λ e. suc-zero 0 (sym e), λ e. false-true (sym e))
+
+module _ (w : ℕ) (ds c : List ℕ) where
+  -- the test passes exactly for a normal form at a width that fits
+  test-iff : length c ≡ cells ds
+      → (between 2 64 w && every (cells ds) (λ n. ltb (at c n) (bound w (digits ds n))) ≡ true) ↔ (WidthFits w × NormalForm w ds c)
+  test-iff whole =
+      let both = and-true (between 2 64 w) (every (cells ds) (λ n. ltb (at c n) (bound w (digits ds n)))) in
+      let all = every-iff (cells ds) (λ n. ltb (at c n) (bound w (digits ds n))) in (
+        λ e.
+            let s = both .0 e in (
+              width-iff w .0 (s .0),
+              normal-iff w ds c .0 (record { whole = whole; below = λ n l. ltb-true _ _ (true-of _ (all .0 (subst T (sym (s .1)) tt) n l)) }),
+            ),
+        λ s. both .1 (width-iff w .1 (s .0), true-of _ (all .1 (λ n l. subst T (sym (lt-ltb _ _ (normal-iff w ds c .1 (s .1) .below n l))) tt))),
+      )
+
+  pub judged : (total : ℕ) (support : List ℕ) {answer : Reply} → answer ≡ validReply total w support ds c → Judged (ValidPasses total support ds c) w ds c answer
+  unfolding validReply
+  judged total support e =
+      let cause = callNumber false total true support ds (eqb (length c) (cells ds)) in
+      let test = between 2 64 w && every (cells ds) (λ n. ltb (at c n) (bound w (digits ds n))) in
+      let n = ap (λ (r : Reply). r .number) e ∙ reply-number cause (truth test) in
+      record {
+        accepted = accepted-iff passes n;
+        either = rw e (truth-either cause test);
+        yes = λ z.
+            let v = ap (λ (r : Reply). r .value) e ∙ reply-value cause (truth test) (sym n ∙ z) in
+            let i = test-iff (passes .0 (sym n ∙ z) .1) in
+            (λ y. i .0 (truth-iff test .0 (sym v ∙ y)), λ s. v ∙ truth-iff test .1 (i .1 s));
+      }
+    where
+      passes : (callNumber false total true support ds (eqb (length c) (cells ds)) ≡ 0) ↔ ValidPasses total support ds c
+      passes =
+          let all = call-iff false total true support ds (eqb (length c) (cells ds)) in (
+            λ z. let s = all .0 z in (s .0, eqb-true (length c) (cells ds) (s .3)),
+            λ s. all .1 (s .0, refl, λ h. false-true (sym h), eq-eqb (length c) (cells ds) (s .1)),
+          )
+
+      truth-either : (k : ℕ) (b : Bool) → (reply k (truth b) .value ≡ 0) ⊎ (reply k (truth b) .value ≡ 1)
+      truth-either zero true = inr refl
+      truth-either zero false = inl refl
+      truth-either (suc k) b = inl refl
