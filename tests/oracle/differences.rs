@@ -37,13 +37,13 @@ pub struct Row {
     listed_here: &'static [u64],
 }
 
-/// A panic in one of the Rust's own files.
+/// A panic in one of the Rust's own files, or in the memory that one of them asks for.
 pub const PANICS: u64 = u64::MAX - 1;
 /// The Rust's `None`, where it is no refusal.
 pub const NOTHING: u64 = u64::MAX - 2;
 
-/// Where the build links the Rust's files to.
-const RUST_FILES: &str = "target/oracle/src/";
+/// Where the build links the Rust's files to, and the standard library's for a vector's memory.
+const RUST_FILES: [&str; 2] = ["target/oracle/src/", "alloc/src/raw_vec"];
 
 pub fn row(
     input: &'static str,
@@ -55,7 +55,8 @@ pub fn row(
     static IN_THE_RUST: AtomicBool = AtomicBool::new(false);
     let hook = take_hook();
     set_hook(Box::new(|why| {
-        let in_the_rust = why.location().is_some_and(|at| at.file().contains(RUST_FILES));
+        let from = |file: &str| RUST_FILES.iter().any(|part| file.contains(part));
+        let in_the_rust = why.location().is_some_and(|at| from(at.file()));
         IN_THE_RUST.store(in_the_rust, Ordering::Relaxed);
     }));
     let said = catch_unwind(AssertUnwindSafe(rust));

@@ -233,6 +233,13 @@ pub fn recovery_rows() -> Vec<Row> {
             &[8],
         ),
         row(
+            "recovery of 7 on 255^8 points",
+            || rust_recovery(|_| 7, &Settings { degree: 254, ..wide }),
+            recovery(&[7], &Settings { degree: 254, ..wide }),
+            &[PANICS],
+            &[8],
+        ),
+        row(
             "recovery of 7 on 65^2 points, here on bytes; exponents and coefficients",
             || rust_recovery(|_| 7, &plane),
             by_bytes(&[7; 4_225], &plane),
