@@ -245,9 +245,16 @@ def wide(x):
     return (0x9e3779b97f4a7c15 * x * x + (1 << 63) * x + 17) % (1 << 64)
 
 
+def bowed(reading):
+    """A level that the reading bows: its values at 0 and 1 lie on the line 200 - 3 x, the one at 2 does not."""
+    return 200 - 8 * reading + 5 * reading * reading
+
+
 def examples():
     return {
         'level': grid(16, 1, 3, [0], table(16, 3, 1, level)),
+        'too_small': grid(8, 1, 1, [0], table(8, 1, 1, bowed)),
+        'deciding': grid(8, 1, 9, [0], table(8, 9, 1, bowed)),
         'staff_tilt': grid(16, 2, 2, [0, 1], table(16, 2, 2, staff_tilt)),
         'no_polynomial': grid(16, 1, 3, [0], [1200, 1187, 1178, 1174]),
         'wide': grid(64, 1, 2, [0], table(64, 2, 1, wide)),

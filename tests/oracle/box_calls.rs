@@ -1,14 +1,13 @@
-//! is_valid, sameness, value and sum. The Rust has is_valid alone; the others are document 01's
-//! definitions, computed here cell by cell.
+//! is_valid, sameness, value and sum. The Rust has is_valid, and an equality of forms that knows neither
+//! support nor degree; the others are document 01's definitions, computed here cell by cell.
 
 use crate::boxes::{
     coefficients, every_set_of_causes, filled, large_box, left, length, lengths, lent, low_bits,
     most_cells, random_box, settings, spoil, twos_of_cells, NUMBERS,
 };
-use crate::bytes::{beside, bytes_of, words_of, LIMIT};
+use crate::bytes::{self, beside, LIMIT};
 use crate::definitions::{falling, value};
 use crate::group::{Answer, Case, Group, Lent, Source, UNSET};
-use crate::library_boxes::bytes as byte_calls;
 use crate::library_boxes::poly as ours;
 use crate::random::Random;
 use crate::reference as rust;
@@ -214,18 +213,9 @@ fn value_left(c: &Case, number: u32, value: u64) -> Answer {
 
 /// The call on bytes.
 fn value_by_bytes(c: &Case) -> Answer {
-    let (s, (cells, point), mut value) = (settings(c), value_tables(c), UNSET);
-    let (mut cells, mut support, mut point) =
-        (bytes_of(&cells), bytes_of(s.support), bytes_of(&point));
-    let (n, k, m, count) = (cells.len(), support.len(), point.len(), s.support.len() as u64);
-    let (cell, on, at) = (cells.at(), support.at(), point.at());
-    let (total, width, degree) = (s.total, s.width, s.degree);
-    let answer = unsafe {
-        byte_calls::cobra_value(cell, n, on, k, count, total, width, degree, at, m, &mut value)
-    };
-    let outside = cells.outside() + support.outside() + point.outside();
-    let said = with_value(answer, value, words_of(&cells), words_of(&support));
-    said.words("point", words_of(&point)).outside(outside)
+    let (cells, point) = value_tables(c);
+    let (answer, value, [cells, support, point], outside) = bytes::value(&cells, &settings(c), &point);
+    with_value(answer, value, cells, support).words("point", point).outside(outside)
 }
 
 fn value_tables(c: &Case) -> (Vec<u64>, Vec<u64>) {
@@ -397,11 +387,13 @@ const SAME: Group = Group {
         let (first, second) = (form_number(&a), form_number(&b));
         let number = if first == 0 { second } else { first };
         let (cells, others) = (one_table(&a), one_table(&b));
-        let same = a.numbers[..3] == b.numbers[..3] && a.tables[0] == b.tables[0];
-        let value = u64::from(number == 0 && same && cells == others);
+        // the Rust's equality has neither: docs/DIFFERENCES.md, "sameness, another degree or support"
+        let asked = number == 0 && a.numbers[2] == b.numbers[2] && a.tables[0] == b.tables[0];
+        let form = |c: &Case, cells: &[u64]| rust::form(cells, &settings(c));
+        let value = u64::from(asked && form(&a, &cells) == form(&b, &others));
         let (support, other) = (a.tables[0].clone(), b.tables[0].clone());
         let said = same_left(number, value, cells, support, others, other);
-        (Source::Document, said.outside(0))
+        (if asked { Source::Rust } else { Source::Document }, said.outside(0))
     },
 };
 

@@ -25,19 +25,19 @@ pub const GROUPS: [(&Group, bool); 5] = [
 
 /// The numbers of a case; the seed decides the support. A number below its range stands for the least
 /// one in it.
-const NUMBERS: [&str; 4] = ["variables", "degree", "width", "seed"];
+pub const NUMBERS: [&str; 4] = ["variables", "degree", "width", "seed"];
 
 /// How many points a case of `VALUES` has.
 const POINTS: u64 = 4;
 
-fn with<T>(c: &Case, then: impl FnOnce(&Settings) -> T) -> T {
+pub fn with<T>(c: &Case, then: impl FnOnce(&Settings) -> T) -> T {
     let mut r = Random::new(c.u64(3), "support");
     let (support, total) = support(c.u64(0).max(1), &mut r);
     let (width, degree) = (c.u32(2).max(2), c.u8(1).max(1));
     then(&Settings { support: &support, total: total as u32, width, degree })
 }
 
-fn random_case(most: u64, r: &mut Random) -> Case {
+pub fn random_case(most: u64, r: &mut Random) -> Case {
     let (variables, degree) = shape(1, most, r);
     Case::of([variables, degree, width(r), r.below(1 << 20)])
 }
@@ -80,7 +80,7 @@ fn grid(coefficients: &[u64], s: &Settings) -> Vec<u64> {
     (0..s.cells().expect("a small box")).map(value).collect()
 }
 
-fn in_box(content: &[u64], s: &Settings) -> Vec<u64> {
+pub fn in_box(content: &[u64], s: &Settings) -> Vec<u64> {
     let mut cells = content.to_vec();
     cells.resize(s.cells().expect("a small box") as usize, 0);
     cells
@@ -94,12 +94,12 @@ fn call(call: InOut, cells: &[u64], s: &Settings) -> (u32, Vec<u64>) {
     (answer, out)
 }
 
-fn recovered(values: &[u64], s: &Settings) -> (u32, Vec<u64>) {
+pub fn recovered(values: &[u64], s: &Settings) -> (u32, Vec<u64>) {
     call(recovery::cobra_recover_multivar_poly, values, s)
 }
 
 /// The library's value of a box; a refusal cannot be missed.
-fn value_of(cells: &[u64], s: &Settings, point: &[u64]) -> u64 {
+pub fn value_of(cells: &[u64], s: &Settings, point: &[u64]) -> u64 {
     let (n, k, m, mut value) = (cells.len(), s.support.len(), point.len(), 0);
     let (from, on, at) = (cells.as_ptr(), s.support.as_ptr(), point.as_ptr());
     let answer = unsafe {

@@ -1,6 +1,7 @@
 //! Compares the project's static library with the Rust that it comes from. README.md says how it is
 //! built, what it prints and how to add a group.
 
+mod beyond;
 mod box_calls;
 mod boxes;
 mod bytes;
@@ -9,6 +10,9 @@ mod core;
 mod definitions;
 mod demand3;
 mod differences;
+mod differences_boxes;
+mod differences_leaves;
+mod differences_solving;
 mod fit;
 mod group;
 mod ir;
@@ -48,6 +52,7 @@ fn groups() -> Vec<(&'static Group, bool)> {
     groups.extend(systems::GROUPS);
     groups.extend(fit::GROUPS);
     groups.extend(demand3::GROUPS);
+    groups.extend(beyond::GROUPS);
     groups
 }
 
@@ -182,10 +187,26 @@ fn selftest(groups: &[(&Group, bool)], seed: u64, cases: u64) -> bool {
         planted += here;
         caught += found;
     }
+    let refuted = refutes_what_is_false(seed, cases);
     let shrinks = shrinks_to_the_least(seed, cases);
     println!("oracle: selftest: shrinking finds the least case: {}", if shrinks { "yes" } else { "NO" });
     println!("oracle: selftest: {caught} of {planted} planted wrong answers caught");
-    caught == planted && shrinks
+    caught == planted && refuted && shrinks
+}
+
+/// Statements that are false must be refuted by the cases of the true ones beside them.
+fn refutes_what_is_false(seed: u64, cases: u64) -> bool {
+    let mut all = true;
+    for (group, _) in beyond::REFUTED.into_iter().filter(|(_, here)| *here) {
+        match judge(group, seed, cases, Plant::Nothing).failure {
+            Some((_, smallest)) => show(group, "false, and refuted", &smallest),
+            None => {
+                println!("oracle: {}: false, and NOT refuted", group.name);
+                all = false;
+            }
+        }
+    }
+    all
 }
 
 /// A product that is wrong from given arguments on must be shown at just these arguments.

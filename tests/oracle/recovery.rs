@@ -1,16 +1,16 @@
 //! Recovery, held to the Rust's reference.
 
 use crate::boxes::{
-    called, coefficients, every_set_of_causes, in_and_out, large_box, left, lengths, low_bits,
+    called, cells, coefficients, every_set_of_causes, in_and_out, large_box, left, lengths, low_bits,
     most_cells, must_leave, on_grid, random_box, settings, spoil, twos_of_cells, Basis, CAUSES,
     NUMBERS,
 };
-use crate::bytes::{beside, bytes_of, words_of, LIMIT};
+use crate::bytes::{beside, recovered, LIMIT};
 use crate::group::{Answer, Case, Group, Source};
-use crate::library_boxes::bytes as byte_calls;
 use crate::library_boxes::recovery as ours;
 use crate::random::Random;
 use crate::reference as rust;
+use crate::settings::Settings;
 
 /// The call on u64 and the one on bytes.
 const HAS_CALLS: bool = cfg!(all(cobra_recover_multivar_poly, cobra_recover));
@@ -123,7 +123,7 @@ const LARGE_BOXES: Group = Group {
         let mut c = large_box(r);
         let values = match r.below(8) {
             0 => coefficients(&c, r),
-            1 | 2 => edge_values(&c, r),
+            1 | 2 => edges(&c, r),
             _ => {
                 let mut values = polynomial_values(&c, r);
                 if r.one_in(3) {
@@ -151,15 +151,20 @@ fn any_values(c: &Case, r: &mut Random) -> Vec<u64> {
     if r.one_in(3) {
         coefficients(c, r)
     } else {
-        edge_values(c, r)
+        edges(c, r)
     }
 }
 
-/// Values whose differences have just the twos that they need, or one too few at one cell.
-fn edge_values(c: &Case, r: &mut Random) -> Vec<u64> {
-    let s = settings(c);
+/// Edge values, short at some cell or at none.
+fn edges(c: &Case, r: &mut Random) -> Vec<u64> {
+    let (s, cells) = (settings(c), cells(c));
+    let short = if r.one_in(3) { cells } else { r.below(cells) };
+    edge_values(&s, short, r)
+}
+
+/// Values whose differences have just the twos that they need, or one too few at the cell `short`.
+pub fn edge_values(s: &Settings, short: u64, r: &mut Random) -> Vec<u64> {
     let twos = twos_of_cells(s.degree, s.support.len());
-    let short = if r.one_in(3) { twos.len() as u64 } else { r.below(twos.len() as u64) };
     let difference = |(cell, &q): (usize, &u32)| {
         let needed = q.min(s.width);
         let missing = u32::from(cell as u64 == short && needed > 0);
@@ -176,14 +181,14 @@ fn edge_values(c: &Case, r: &mut Random) -> Vec<u64> {
 }
 
 /// Alters one cell modulo 2^width, by some power of two often.
-fn damage(values: &mut [u64], width: u64, r: &mut Random) {
+pub fn damage(values: &mut [u64], width: u64, r: &mut Random) {
     let cell = r.below(values.len() as u64) as usize;
     let by = if r.one_in(2) { 1 << r.below(width) } else { r.next() | 1 << r.below(width) };
     values[cell] = values[cell].wrapping_add(by);
 }
 
 /// Values with the bits above the width made up, left out, or as they are.
-fn noisy(mut values: Vec<u64>, width: u64, r: &mut Random) -> Vec<u64> {
+pub fn noisy(mut values: Vec<u64>, width: u64, r: &mut Random) -> Vec<u64> {
     let low = low_bits(width);
     match r.below(3) {
         0 => {}
@@ -201,15 +206,8 @@ fn number(c: &Case) -> u32 {
 /// The call on u64, with the call on bytes beside it.
 fn judged(c: &Case) -> Answer {
     let (s, (values, out)) = (settings(c), in_and_out(c));
-    let (mut values, mut support) = (bytes_of(&values), bytes_of(s.support));
-    let mut lent = bytes_of(&out);
-    let (n, k, m, count) = (values.len(), support.len(), lent.len(), s.support.len() as u64);
-    let (from, on, to) = (values.at(), support.at(), lent.at());
-    let answer = unsafe {
-        byte_calls::cobra_recover(from, n, on, k, count, s.total, s.width, s.degree, to, m)
-    };
-    let outside = values.outside() + support.outside() + lent.outside();
-    let left = left(answer, words_of(&lent), words_of(&values), words_of(&support));
+    let (answer, [lent, values, support], outside) = recovered(&values, &s, &out);
+    let left = left(answer, lent, values, support);
     let above = matches!(number(c), 0 | 9) && s.cells() > Some(LIMIT);
     let large = above.then(|| must_leave(c, 8, out));
     beside(called(c, ours::cobra_recover_multivar_poly), left.outside(outside), large)

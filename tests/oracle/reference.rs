@@ -142,6 +142,9 @@ pub fn singletons(values: &[u64], total: u32, width: u32) -> Result<Vec<u64>, Re
     Ok(cells)
 }
 
+/// What the Rust's conversions take and give: terms, the number of variables, the width.
+pub type Convert = fn(&CoeffMap, u8, u32) -> CoeffMap;
+
 /// From powers to falling factorials, the Rust's answer as it is: with no exponent above 1 it comes
 /// back unmasked, where the port reduces modulo 2^width (`reduced`).
 pub fn to_falling(cells: &[u64], s: &Settings) -> Result<Vec<u64>, Refusal> {
@@ -153,15 +156,26 @@ pub fn to_powers(cells: &[u64], s: &Settings) -> Result<Vec<u64>, Refusal> {
     converted(cells, s, to_monomial_basis)
 }
 
-fn converted(
-    cells: &[u64],
-    s: &Settings,
-    convert: fn(&CoeffMap, u8, u32) -> CoeffMap,
-) -> Result<Vec<u64>, Refusal> {
+/// The normal form of a box of powers.
+pub fn normal_form(cells: &[u64], s: &Settings) -> Result<Vec<u64>, Refusal> {
+    converted(cells, s, normalized)
+}
+
+/// The Rust's normal form of terms.
+pub fn normalized(terms: &CoeffMap, num_vars: u8, bitwidth: u32) -> CoeffMap {
+    normalize_polynomial(&PolyIR { num_vars, bitwidth, terms: terms.clone() }).coeffs
+}
+
+fn converted(cells: &[u64], s: &Settings, convert: Convert) -> Result<Vec<u64>, Refusal> {
     match s.refusal(false, &[cells.len()]) {
         Some(refusal) => Err(refusal),
-        None => Ok(box_of_map(&convert(&map_of_box(cells, s), s.total as u8, s.width), s)),
+        None => Ok(unguarded(cells, s, convert)),
     }
+}
+
+/// A conversion as the Rust makes it of a box within the limit, whatever the other settings.
+pub fn unguarded(cells: &[u64], s: &Settings, convert: Convert) -> Vec<u64> {
+    box_of_map(&convert(&map_of_box(cells, s), s.total as u8, s.width), s)
 }
 
 /// The cells modulo 2^width.
@@ -169,20 +183,14 @@ pub fn reduced(cells: &[u64], width: u32) -> Vec<u64> {
     cells.iter().map(|c| c & bitmask(width)).collect()
 }
 
-/// The normal form of a box of powers.
-pub fn normal_form(cells: &[u64], s: &Settings) -> Result<Vec<u64>, Refusal> {
-    if let Some(refusal) = s.refusal(false, &[cells.len()]) {
-        return Err(refusal);
-    }
-    let terms = map_of_box(cells, s);
-    let poly = PolyIR { num_vars: s.total as u8, bitwidth: s.width, terms };
-    Ok(box_of_map(&normalize_polynomial(&poly).coeffs, s))
+/// The form that a box stands for.
+pub fn form(cells: &[u64], s: &Settings) -> NormalizedPoly {
+    NormalizedPoly { num_vars: s.total as u8, bitwidth: s.width, coeffs: map_of_box(cells, s) }
 }
 
 /// Whether a box is a normal form. A bad width is a no, and no other setting may be refused.
 pub fn is_valid(cells: &[u64], s: &Settings) -> bool {
-    let coeffs = map_of_box(cells, s);
-    NormalizedPoly { num_vars: s.total as u8, bitwidth: s.width, coeffs }.is_valid()
+    form(cells, s).is_valid()
 }
 
 /// The bare solver. Entries are reduced modulo 2^width first, which the port adds; matrix and right
@@ -203,11 +211,16 @@ pub fn solver(
         return Err(9);
     }
     let mask = bitmask(width);
+    let as_they_are = askable(matrix.iter().chain(right.iter()), mask)
+        .then(|| solve_2adic(&mut matrix.to_vec(), &mut right.to_vec(), columns, mask, width));
     matrix.iter_mut().chain(right.iter_mut()).for_each(|x| *x &= mask);
-    solve_2adic(matrix, right, columns, mask, width).ok_or(10)
+    let answer = solve_2adic(matrix, right, columns, mask, width);
+    assert!(as_they_are.map_or(true, |other| other == answer), "{UNLISTED}");
+    answer.ok_or(10)
 }
 
-/// The four by four solver, with the same reduction.
+/// The four by four solver, with the same reduction of its entries. The right side goes to the Rust as
+/// it is: its bits above the width never count there.
 pub fn solver4(
     matrix: &mut [[u64; 4]; 4],
     right: &mut [u64; 4],
@@ -217,6 +230,19 @@ pub fn solver4(
         return Err(3);
     }
     let mask = bitmask(width);
-    matrix.iter_mut().flatten().chain(right.iter_mut()).for_each(|x| *x &= mask);
-    solve_2adic_fixed(matrix, right, mask, width).ok_or(10)
+    let as_they_are = askable(matrix.iter().flatten(), mask)
+        .then(|| solve_2adic_fixed(&mut matrix.clone(), &mut right.clone(), mask, width));
+    matrix.iter_mut().flatten().for_each(|x| *x &= mask);
+    let answer = solve_2adic_fixed(matrix, right, mask, width);
+    assert!(as_they_are.map_or(true, |other| other == answer), "{UNLISTED}");
+    answer.ok_or(10)
 }
+
+/// Whether the Rust can be asked without the reduction too: a number has bits above the width, and none
+/// is a multiple of 2^width but 0, which docs/DIFFERENCES.md lists.
+fn askable<'a>(entries: impl Iterator<Item = &'a u64> + Clone, mask: u64) -> bool {
+    let multiple = |&x: &u64| x != 0 && x & mask == 0;
+    entries.clone().any(|&x| x > mask) && !entries.copied().any(|x| multiple(&x))
+}
+
+const UNLISTED: &str = "without the reduction the Rust answers otherwise, and no entry is a multiple of 2^width";
