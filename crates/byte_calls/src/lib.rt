@@ -11,6 +11,7 @@ ghost use Rattle.byte_calls.specs.Calls.{recoverNumber, recoverLeft, byt
 mod checks;
 mod codec;
 pub mod fit;
+mod rooms;
 
 use answers::Number;
 use answers::Outcome;
