@@ -7,6 +7,7 @@ use Rattle.meaning.specs.Replies.{Reply, accepted, refused}
 use Rattle.meaning.specs.Boxes.{cells}
 use Rattle.meaning.specs.Settings.{first, settingsNumber, callNumber}
 use Rattle.meaning.specs.Calls.{reply, left}
+use Rattle.theory.specs.AcceptedCalls.{number-reply}
 use Rattle.answers.specs.declared.Refusal.{Refusal}
 use Rattle.answers.specs.declared.Refusal.the-variants.{EmptySupport, TooManyVariables, WidthOutOfRange, DegreeZero, SupportIndex, NotDivisible, RepeatedIndex, TooLarge, WrongLength, NoAnswer, OutOfRange, IllFormed}
 use Rattle.answers.specs.declared.Number.{Number}
@@ -26,11 +27,6 @@ code-suc WrongLength = refl
 code-suc NoAnswer = refl
 code-suc OutOfRange = refl
 code-suc IllFormed = refl
-
--- the number and the value of a reply
-pub number-reply : (n v : ℕ) → reply n v .number ≡ n
-number-reply zero v = refl
-number-reply (suc n) v = refl
 
 -- an accepted call: its number is 0 and its value the one that was asked for
 pub number-accepted : (n v : ℕ) {x : ℕ} → accepted x ≡ reply n v → n ≡ 0

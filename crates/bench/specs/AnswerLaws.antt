@@ -19,7 +19,8 @@ use Rattle.meaning.specs.Calls.{reply, left, inOutNumber, recoveryNumber, recov
 use Rattle.theory.specs.Settings.{passes, first-zero}
 use Rattle.theory.specs.AcceptedCalls.{width-high}
 use Rattle.answers.specs.Said.{code}
-use Rattle.answers.specs.Laws.{number-reply, reply-code, first-code}
+use Rattle.theory.specs.AcceptedCalls.{number-reply}
+use Rattle.answers.specs.Laws.{reply-code, first-code}
 use Rattle.answers.specs.declared.Refusal.{Refusal}
 use Rattle.bench_file.specs.Layout.{Head, ill-head, ill-values, whole, degreesOf, headNumber, benchNumber, acceptedText, refusedText, benchText}
 use Rattle.bench_file.specs.Verdict.{verdict, narrowed}

@@ -13,6 +13,7 @@ ghost use Rattle.byte_calls.specs.Passing.{RecoverHolds, ValueHolds};
 mod checks;
 mod codec;
 pub mod fit;
+mod rooms;
 
 use answers::Number;
 use answers::Outcome;

@@ -1,9 +1,11 @@
 // The database's calls: tables and support cross as bytes, eight to an entry, least first, at most 4,096 entries each. The support's count crosses as a
 // number. What a call does is said in `byte_calls`.
 ghost use mathlib.Core.Path.{_≡_};
+ghost use Prim.Native.Nat.{min};
 ghost use Rattle.meaning.specs.Settings.{cube};
 ghost use Rattle.meaning.specs.Replies.{told};
 ghost use Rattle.demand3.specs.Promises.{Decides, Valued};
+ghost use Rattle.weighted_poly_fit.specs.Fits.{Fits};
 ghost use Rattle.byte_calls.specs.Bytes.{decoded};
 ghost use Rattle.byte_calls.specs.Calls.{recoverNumber, recoverLeft, bytesValueReply, fitHeld, fitBytesReply, fitBytesLeft};
 ghost use Rattle.byte_calls.specs.Passing.{RecoverHolds, ValueHolds};
@@ -71,6 +73,8 @@ pub extern "C" fn cobra_fit(
         (fitHeld total width (now (support .entry)) «max_degree» «grid_degree» (now (weights .entry)) (now (targets .entry))) ⌝ }
     ensures leaves { λ r. ⌜ now (out .exit) ≡ fitBytesLeft count (now (support .entry)) (now (weights .entry)) (now (targets .entry)) (now (out .entry))
         (fitHeld total width (now (support .entry)) «max_degree» «grid_degree» (now (weights .entry)) (now (targets .entry))) ⌝ }
+    ensures fits { λ r. ⌜ Fits width (cube (decoded (now (support .entry))) (min «max_degree» «grid_degree»)) (cube (decoded (now (support .entry))) «grid_degree»)
+        «max_degree» (decoded (now (weights .entry))) (decoded (now (targets .entry))) r (now («degree_used» .exit)) (decoded (now (out .exit))) ⌝ }
 {
     answers::deliver(
         byte_calls::fit::fit(

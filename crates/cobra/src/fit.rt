@@ -1,7 +1,10 @@
 // The weighted fit on tables of u64. What the call does is said in `weighted_poly_fit`.
 ghost use mathlib.Core.Path.{_≡_};
+ghost use Prim.Native.Nat.{min};
+ghost use Rattle.meaning.specs.Settings.{cube};
 ghost use Rattle.meaning.specs.Fit.{fitOf, fitReply, fitOut, fitMatrix, fitRight};
 ghost use Rattle.meaning.specs.Replies.{told};
+ghost use Rattle.weighted_poly_fit.specs.Fits.{Fits};
 
 // Fits a polynomial to weighted targets; `value` gets degree_used.
 #[no_mangle]
@@ -26,6 +29,8 @@ pub extern "C" fn cobra_recover_weighted_poly(
         (now (targets .entry)) (now (matrix .entry)) (now (right .entry)) (now (out .entry))))
         × (now (right .exit) ≡ fitRight (fitOf total width (now (support .entry)) «max_degree» «grid_degree» (now (weights .entry))
         (now (targets .entry)) (now (matrix .entry)) (now (right .entry)) (now (out .entry)))) ⌝ }
+    ensures fits { λ r. ⌜ Fits width (cube (now (support .entry)) (min «max_degree» «grid_degree»)) (cube (now (support .entry)) «grid_degree») «max_degree»
+        (now (weights .entry)) (now (targets .entry)) r (now (value .exit)) (now (out .exit)) ⌝ }
 {
     answers::deliver(
         weighted_poly_fit::fit::recover_weighted_poly(

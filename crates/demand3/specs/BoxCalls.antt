@@ -20,6 +20,7 @@ use Rattle.meaning.specs.Recovery.{every}
 use Rattle.meaning.specs.Replies.{Reply, between}
 use Rattle.meaning.specs.Settings.{callNumber}
 use Rattle.meaning.specs.Calls.{reply, left, truth, validReply, valueReply, inOutNumber, sumNumber, sumLeft, reduceNumber, reduceLeft, convertLeft}
+use Rattle.theory.specs.AcceptedCalls.{number-reply}
 use Rattle.theory.specs.Congruence.{cong-of-eq, cong-sym, cong-trans, mod-cong}
 use Rattle.theory.specs.Every.{every-iff}
 use Rattle.theory.specs.Tables.{length-tabulate, at-tabulate}
@@ -37,10 +38,6 @@ use Rattle.demand3.specs.Coefficients.{value-coefficients}
 use Rattle.demand3.specs.NormalForms.{normalBox-of, normal-form-unique}
 
 -- ---- replies
-
-reply-number : (n v : ℕ) → reply n v .number ≡ n
-reply-number zero v = refl
-reply-number (suc n) v = refl
 
 reply-value : (n v : ℕ) → n ≡ 0 → reply n v .value ≡ v
 reply-value n v e = rw e refl
@@ -67,7 +64,7 @@ value-at w ds c xs zs h =
 pub valued : {C : Type 0} (w : ℕ) (ds c xs : List ℕ) (cause : ℕ) → (cause ≡ 0) ↔ C → {answer : Reply}
     → answer ≡ reply cause (value (2 ^ w) ds c xs) → Valued C w ds c xs answer
 valued w ds c xs cause conditions e =
-    let n = ap (λ (r : Reply). r .number) e ∙ reply-number cause (value (2 ^ w) ds c xs) in
+    let n = ap (λ (r : Reply). r .number) e ∙ number-reply cause (value (2 ^ w) ds c xs) in
     record {
       accepted = accepted-iff conditions n;
       values = λ z zs h. ap (λ (r : Reply). r .value) e ∙ reply-value cause _ (sym n ∙ z) ∙ value-at w ds c xs zs h;
@@ -240,7 +237,7 @@ module _ (w : ℕ) (ds c : List ℕ) where
   judged total support e =
       let cause = callNumber false total true support ds (eqb (length c) (cells ds)) in
       let test = between 2 64 w && every (cells ds) (λ n. ltb (at c n) (bound w (digits ds n))) in
-      let n = ap (λ (r : Reply). r .number) e ∙ reply-number cause (truth test) in
+      let n = ap (λ (r : Reply). r .number) e ∙ number-reply cause (truth test) in
       record {
         accepted = accepted-iff passes n;
         either = rw e (truth-either cause test);

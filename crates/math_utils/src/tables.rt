@@ -4,6 +4,7 @@ ghost use Prim.Native.Nat.{_%_, _^_};
 ghost use Rattle.meaning.specs.Tables.{tabulate};
 ghost use Rattle.meaning.specs.Factorials.{factorial, oddPart};
 ghost use Rattle.meaning.specs.Inverses.{inverse};
+ghost use Rattle.math_utils.specs.OddTables.{OddFactorials, Inverted, oddFactorials};
 
 // A table with an entry for each degree from 0 to 255.
 pub type DegreeTable = [u64; 256];
@@ -526,16 +527,18 @@ const ODD_FACTORIAL_INVERSES: DegreeTable = [
     0x43a282bb9c724b23,
 ];
 
-// The table of odd parts: entry k is the odd part of k! modulo 2^64.
+// The table of odd parts: entry k is the odd part of k! modulo 2^64. It begins with 1, and each entry times the odd part of the next number is the next one.
 pub fn odd_factorials() -> DegreeTable
-    ensures { λ r. ⌜ r ≡ tabulate 256 (λ k. oddPart (factorial k) % 2 ^ 64) ⌝ }
+    ensures table { λ r. ⌜ r ≡ tabulate 256 (λ k. oddPart (factorial k) % 2 ^ 64) ⌝ }
+    ensures recurs { λ r. ⌜ OddFactorials r ⌝ }
 {
     ODD_FACTORIALS
 }
 
 // The table of their inverses: entry k times the odd part of k! is 1 modulo 2^64.
 pub fn odd_factorial_inverses() -> DegreeTable
-    ensures { λ r. ⌜ r ≡ tabulate 256 (λ k. inverse (oddPart (factorial k)) 64) ⌝ }
+    ensures table { λ r. ⌜ r ≡ tabulate 256 (λ k. inverse (oddPart (factorial k)) 64) ⌝ }
+    ensures inverts { λ r. ⌜ Inverted oddFactorials r ⌝ }
 {
     ODD_FACTORIAL_INVERSES
 }

@@ -1,8 +1,8 @@
--- What an accepted call with one table in and one out knows of its settings and lengths.
+-- The number of a reply, and what an accepted call with one table in and one out knows of its settings and lengths.
 use mathlib.Core.Path.{_≡_, refl}
 use mathlib.Core.Bool.{Bool, true, false, _&&_, cond, false≢true}
 use mathlib.Core.List.{List}
-use Prim.Native.Nat.{ℕ, _≤_}
+use Prim.Native.Nat.{ℕ, zero, suc, _≤_}
 use native.Mathlib.Nat.{suc-ne-zero}
 use borrow.Author.Tests.{leb-true, eqb-true}
 use lib.Dec.{leb, eqb}
@@ -10,8 +10,13 @@ use lib.ListN.{length}
 use Rattle.meaning.specs.Boxes.{cells}
 use Rattle.meaning.specs.Replies.{between}
 use Rattle.meaning.specs.Settings.{settingsNumber, callNumber}
-use Rattle.meaning.specs.Calls.{inOutNumber}
+use Rattle.meaning.specs.Calls.{reply, inOutNumber}
 use Rattle.theory.specs.Settings.{Passes, passes, first-zero}
+
+-- the number of a reply
+pub number-reply : (n v : ℕ) → reply n v .number ≡ n
+number-reply zero v = refl
+number-reply (suc n) v = refl
 
 both-true : (a b : Bool) → a && b ≡ true → (a ≡ true) × (b ≡ true)
 both-true true b e = (refl, e)

@@ -14,7 +14,8 @@ use Rattle.meaning.specs.Recovery.{difference, divides, coefficient, accepts, a
 use Rattle.theory.specs.Congruence.{Cong}
 use Rattle.theory.specs.Tables.{tabulate-cong}
 use Rattle.theory.specs.Every.{every-iff}
-use Rattle.theory.specs.Widths.{widthCell, divides-iff, coefficient-eq}
+use Rattle.theory.specs.Widths.{widthCell, divides-iff, Divided, divides-cases, coefficient-eq}
+use Rattle.theory.specs.WordDifferences.{difference-lt}
 use Rattle.theory.specs.GridRecovery.{Passes, solutions, solutionAt, tableTotal, solutions-bounded, solutions-agree, passes-of-agrees}
 use Rattle.theory.specs.GridRecovery.{bounded-unique, agrees-same, bounded-eq-of-values, value-cong-bounds, value-boxTotal, passes-total, solutions-total}
 
@@ -25,6 +26,16 @@ accepts-iff w ds v =
     let all = every-iff (cells ds) (λ n. divides w (digits ds n) (difference w ds v n)) in (
       λ t n p. divides-iff w (digits ds n) (difference w ds v n) .0 (all .0 t n p),
       λ h. all .1 (λ n p. divides-iff w (digits ds n) (difference w ds v n) .1 (h n p)),
+    )
+
+-- which is, at every cell, one of the two cases
+pub accepts-cases : (w : ℕ) (ds v : List ℕ)
+    → T (accepts w ds v) ↔ ((n : ℕ) → n < cells ds → Divided w (digits ds n) (difference w ds v n))
+unfolding accepts
+accepts-cases w ds v =
+    let all = every-iff (cells ds) (λ n. divides w (digits ds n) (difference w ds v n)) in (
+      λ t n p. divides-cases w (digits ds n) (difference w ds v n) (difference-lt w ds v n) .0 (all .0 t n p),
+      λ h. all .1 (λ n p. divides-cases w (digits ds n) (difference w ds v n) (difference-lt w ds v n) .1 (h n p)),
     )
 
 -- the answer is the table of solutions

@@ -91,6 +91,11 @@ eval-cong-function {m} {f} {g} A {xs} (more {d} {ds} p r) =
     (sum-cong (suc d) (λ e q. cong-mul (p e (le-of-suc-le-suc q)) (eval-cong-function (λ es. A (e ∷ es)) r)))
     (cong-of-eq m (sym (eval-cons g d ds A xs))))
 
+-- the coordinates behind the first
+pub at-drop : (zs : List ℕ) (i : ℕ) → at (drop 1 zs) i ≡ at zs (suc i)
+at-drop [] i = refl
+at-drop (z ∷ zs) i = refl
+
 -- congruent points, for a function that depends on x modulo m only
 pub eval-cong-point : {m : ℕ} (f : ℕ → ℕ → ℕ) (ds : List ℕ) (A : List ℕ → ℕ) (xs ys : List ℕ)
     → ((x y e : ℕ) → Cong m x y → Cong m (f x e) (f y e))
@@ -104,10 +109,6 @@ eval-cong-point {m} f (d ∷ ds) A xs ys r h =
     cong-mul (r _ _ e (h 0 (zero-lt-suc (length ds)))) (eval-cong-point f ds (λ es. A (e ∷ es)) (drop 1 xs) (drop 1 ys) r rest)))
     (cong-of-eq m (sym (eval-cons f d ds A ys))))
   where
-    at-drop : (zs : List ℕ) (i : ℕ) → at (drop 1 zs) i ≡ at zs (suc i)
-    at-drop [] i = refl
-    at-drop (z ∷ zs) i = refl
-
     rest : (i : ℕ) → i < length ds → Cong m (at (drop 1 xs) i) (at (drop 1 ys) i)
     rest i p = cong-trans (cong-of-eq m (at-drop xs i)) (cong-trans (h (suc i) (suc-le-suc p)) (cong-of-eq m (sym (at-drop ys i))))
 

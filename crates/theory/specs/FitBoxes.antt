@@ -1,12 +1,14 @@
 -- The box of a fit, cell by cell: a column's cell has the column's value modulo its bound, every other cell 0; and the degree used is the largest
 -- total degree among the columns whose reduced value is not 0.
 use mathlib.Core.Path.{_≡_, refl, sym, ap, _∙_}
+use mathlib.Core.Logic.{_⊎_, inl, inr, ⊎-elim}
 use mathlib.Core.Bool.{Bool, true, false, cond}
-use Prim.Native.Nat.{ℕ, zero, suc, _%_, _≤_, _<_, zero-le, suc-le-suc}
+use Prim.Native.Nat.{ℕ, zero, suc, _%_, _≤_, _<_, max, zero-le, suc-le-suc}
 use mathlib.Core.List.{List, []}
 use native.Mathlib.Nat.{not-suc-le-zero, le-of-suc-le-suc, zero-lt-suc, le-trans, le-of-eq, le-antisymm, lt-of-lt-of-le, lt-irrefl, zero-mod}
+use native.Mathlib.Decide.{decLe}
 use native.Mathlib.Omega.{arith}
-use borrow.Author.Tests.{leb-true, leb-false}
+use borrow.Author.Tests.{leb-true, leb-false, eqb-false, ne-eqb}
 use lib.Dec.{leb, eqb}
 use lib.ListN.{length, getD}
 use Rattle.meaning.specs.Tables.{at}
@@ -33,6 +35,54 @@ pub largest-le : (n : ℕ) (f : ℕ → ℕ) (b : ℕ) → ((i : ℕ) → i < n 
 unfolding largest
 largest-le zero f b h = zero-le
 largest-le (suc n) f b h = omega (arith, h 0 (zero-lt-suc n), largest-le n (λ i. f (suc i)) b (λ i p. h (suc i) (suc-le-suc p)))
+
+-- it is 0 or one of the entries
+pub largest-met : (n : ℕ) (f : ℕ → ℕ) → (largest n f ≡ 0) ⊎ ((i : ℕ) × (i < n) × (f i ≡ largest n f))
+unfolding largest
+largest-met zero f = inl refl
+largest-met (suc n) f = go (decLe (largest n rest) (f 0)) (largest-met n rest)
+  where
+    rest : ℕ → ℕ
+    rest i = f (suc i)
+
+    Met : Type 0
+    Met = (max (f 0) (largest n rest) ≡ 0) ⊎ ((i : ℕ) × (i < suc n) × (f i ≡ max (f 0) (largest n rest)))
+
+    go : Dec (largest n rest ≤ f 0) → (largest n rest ≡ 0) ⊎ ((i : ℕ) × (i < n) × (rest i ≡ largest n rest)) → Met
+    go (yes h) m = inr (0, zero-lt-suc n, omega arith)
+    go (no h) (inl z) = absurd (h (omega arith))
+    go (no h) (inr m) = inr (suc (m .0), suc-le-suc (m .1), omega (arith, m .2))
+
+-- ---- the degree used
+
+-- the degree of a coefficient of the exponent list es: its total degree, or 0 where it is 0
+abbrev degreeOf : List ℕ → ℕ → ℕ
+degreeOf es v = cond (eqb v 0) 0 (total es)
+
+module _ (ds c : List ℕ) where
+  -- no coefficient that is not 0 has a higher total degree
+  pub degreeUsed-most : (n : ℕ) → n < cells ds → (at c n ≡ 0 → ⊥) → total (digits ds n) ≤ degreeUsed ds c
+  unfolding degreeUsed
+  degreeUsed-most n h ne =
+      let byCell : ℕ → ℕ = λ n. degreeOf (digits ds n) (at c n) in
+      le-trans (le-of-eq (ap (λ (b : Bool). cond b 0 (total (digits ds n))) (sym (ne-eqb (at c n) 0 ne)))) (le-largest (cells ds) byCell n h)
+
+  -- and it is 0 or the total degree of one of them
+  pub degreeUsed-met : (degreeUsed ds c ≡ 0) ⊎ ((n : ℕ) × (n < cells ds) × (at c n ≡ 0 → ⊥) × (total (digits ds n) ≡ degreeUsed ds c))
+  unfolding degreeUsed
+  degreeUsed-met = ⊎-elim inl (λ m. go m (eqb (at c (m .0)) 0) refl) (largest-met (cells ds) byCell)
+    where
+      byCell : ℕ → ℕ
+      byCell n = degreeOf (digits ds n) (at c n)
+
+      most : ℕ
+      most = largest (cells ds) byCell
+
+      go : (m : (n : ℕ) × (n < cells ds) × (byCell n ≡ most)) → (b : Bool) → eqb (at c (m .0)) 0 ≡ b
+          → (most ≡ 0) ⊎ ((n : ℕ) × (n < cells ds) × (at c n ≡ 0 → ⊥) × (total (digits ds n) ≡ most))
+      go m true e = inl (sym (m .2) ∙ ap (λ (b : Bool). cond b 0 (total (digits ds (m .0)))) e)
+      go m false e =
+          inr (m .0, m .1, eqb-false _ 0 e, sym (ap (λ (b : Bool). cond b 0 (total (digits ds (m .0)))) e) ∙ m .2)
 
 -- ---- places of columns
 
@@ -80,10 +130,6 @@ module _ (w : ℕ) (ds : List ℕ) (most : ℕ) (x : ℕ → ℕ) where
       ∙ ap (_% bound w (digits ds n))
       (valueOf-absent (columns ds most) x (digits ds n) (λ i. lt-irrefl most (lt-of-lt-of-le l (in-columns-iff ds most (digits ds n) .0 i .1))))
       ∙ zero-mod (bound w (digits ds n))
-
-  -- the degree of a coefficient of the exponent list es: its total degree, or 0 where it is 0
-  abbrev degreeOf : List ℕ → ℕ → ℕ
-  degreeOf es v = cond (eqb v 0) 0 (total es)
 
   -- the degree used, column by column
   pub degreeUsed-columns :

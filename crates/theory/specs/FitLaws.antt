@@ -3,20 +3,19 @@
 -- satisfies every row.
 use mathlib.Core.Path.{_≡_, sym, ap, _∙_}
 use mathlib.Core.Bool.{Bool, true, cond}
-use Prim.Native.Nat.{ℕ, _*_, _%_, _^_, _<_, min}
+use Prim.Native.Nat.{ℕ, _*_, _%_, _^_, _<_}
 use mathlib.Core.List.{List, []}
 use native.Mathlib.Nat.{mod-lt, le-refl, mul-assoc}
 use borrow.Author.Tests.{lt-ltb, le-ltb}
-use lib.ListN.{length, getD, length-replicate}
+use lib.ListN.{length, getD}
 use lib.Pow.{pow-pos}
 use Rattle.meaning.specs.Tables.{tabulate, at}
 use Rattle.meaning.specs.Sums.{sum}
 use Rattle.meaning.specs.Factorials.{falling}
 use Rattle.meaning.specs.Boxes.{cells, digits}
 use Rattle.meaning.specs.Values.{product, value, bound, Normal}
-use Rattle.meaning.specs.Settings.{cube}
 use Rattle.meaning.specs.Calls.{left}
-use Rattle.meaning.specs.Fit.{columns, fitSystem, valueOf, fitBox, Fit, fitOf, fitRows, fitColumns, fitCause, fitState, fitSucceeds, fitAnswer, fitNumber, fitOut}
+use Rattle.meaning.specs.Fit.{total, columns, fitSystem, valueOf, fitBox, Fit, fitRows, fitColumns, fitCause, fitState, fitSucceeds, fitAnswer, fitNumber, fitOut}
 use Rattle.theory.specs.Congruence.{Cong, cong-of-eq, cong-sym, cong-trans, cong-mul-left, cong-mul-right, mod-cong}
 use Rattle.theory.specs.Sums.{sum-eq, sum-cong, sum-mul-left}
 use Rattle.theory.specs.Tables.{at-tabulate, length-tabulate}
@@ -28,6 +27,7 @@ use Rattle.theory.specs.Settings.{first-zero}
 use Rattle.theory.specs.SolverLaws.{passed, holds-of-true}
 use Rattle.theory.specs.Columns.{in-columns-iff, columns-ordered}
 use Rattle.theory.specs.ColumnValues.{columns-sum}
+use Rattle.theory.specs.FitBoxes.{fitBox-other}
 
 -- ---- the system
 
@@ -115,50 +115,41 @@ fitBox-fits w ds gs most weights targets x same s n h =
     entry : (c : ℕ) → c < count → Cong (2 ^ w) (fitSystem w gs fs weights targets n c) (at weights n * product falling (length ds) xs (getD fs c []))
     entry c p = rw (sym same) (fitSystem-entry w gs fs weights targets n c p)
 
--- ---- the call
+-- ---- the answer and the call
 
+-- the answer is a normal form, with 0 in every cell whose exponents sum to more than `most`
+module _ (f : Fit) where
+  pub fitAnswer-normal : Normal (f .width) (f .degrees) (fitAnswer f)
+  unfolding fitAnswer
+  fitAnswer-normal = fitBox-normal (f .width) (f .degrees) (fitColumns f) _
+
+  pub fitAnswer-outside : (n : ℕ) → n < cells (f .degrees) → f .most < total (digits (f .degrees) n) → at (fitAnswer f) n ≡ 0
+  unfolding fitAnswer
+  fitAnswer-outside n h l = fitBox-other (f .width) (f .degrees) (f .most) _ n h l
+
+  -- where the elimination succeeds, its value times the weight is the target, at every grid point
+  pub fitAnswer-fits : fitSucceeds f ≡ true → length (f .grid) ≡ length (f .degrees) → (n : ℕ) → n < cells (f .grid)
+      → (at (f .weights) n * value (2 ^ f .width) (f .degrees) (fitAnswer f) (digits (f .grid) n)) % 2 ^ f .width ≡ at (f .targets) n % 2 ^ f .width
+  unfolding fitAnswer fitSucceeds fitState
+  fitAnswer-fits success same n h =
+      fitBox-fits (f .width) (f .degrees) (f .grid) (f .most) (f .weights) (f .targets) _ same
+      (substituted-solves (f .width) (fitRows f) (length (fitColumns f)) _
+      (fitSystem-lt (f .width) (f .grid) (fitColumns f) (f .weights) (f .targets)) (holds-of-true success)) n h
+      .same
+
+-- an accepted call: the elimination succeeds, and the output is the answer
 module _ (f : Fit) (ok : fitNumber f ≡ 0) where
   no-cause : fitCause f ≡ 0
   unfolding fitNumber
   no-cause = first-zero (fitCause f) _ ok .0
 
-  success : fitSucceeds f ≡ true
+  pub fit-succeeds : fitSucceeds f ≡ true
   unfolding fitNumber
-  success = passed (fitSucceeds f) 9 (first-zero (fitCause f) _ ok .1)
+  fit-succeeds = passed (fitSucceeds f) 9 (first-zero (fitCause f) _ ok .1)
 
-  -- the output of an accepted fit is the answer
   pub fitOut-answer : fitOut f ≡ fitAnswer f
   unfolding fitOut
   fitOut-answer =
       let zeros : List ℕ = tabulate (cells (f .degrees)) (λ n. 0) in
       ap (λ (k : ℕ). left k (cond (fitSucceeds f) (fitAnswer f) zeros) (f .out)) no-cause
-      ∙ ap (λ (b : Bool). cond b (fitAnswer f) zeros) success
-
-  -- a normal form
-  pub fitOut-normal : Normal (f .width) (f .degrees) (fitOut f)
-  unfolding fitAnswer
-  fitOut-normal = rw fitOut-answer (fitBox-normal (f .width) (f .degrees) (fitColumns f) _)
-
-  -- whose value times the weight is the target, at every grid point
-  pub fit-fits : length (f .grid) ≡ length (f .degrees) → (n : ℕ) → n < cells (f .grid)
-      → (at (f .weights) n * value (2 ^ f .width) (f .degrees) (fitOut f) (digits (f .grid) n)) % 2 ^ f .width ≡ at (f .targets) n % 2 ^ f .width
-  unfolding fitAnswer fitSucceeds fitState
-  fit-fits same n h =
-      rw fitOut-answer
-      (fitBox-fits (f .width) (f .degrees) (f .grid) (f .most) (f .weights) (f .targets) _ same
-      (substituted-solves (f .width) (fitRows f) (length (fitColumns f)) _
-      (fitSystem-lt (f .width) (f .grid) (fitColumns f) (f .weights) (f .targets)) (holds-of-true success)) n h
-      .same)
-
--- the same for one max_degree and one grid_degree: the degree lists have a degree for each support variable
-pub fitOf-fits : (variables w : ℕ) (support : List ℕ) (max-degree grid-degree : ℕ) (weights targets matrix right out : List ℕ)
-    → fitNumber (fitOf variables w support max-degree grid-degree weights targets matrix right out) ≡ 0
-    → (n : ℕ) → n < cells (cube support grid-degree)
-    → (at weights n
-    * value (2 ^ w) (cube support (min max-degree grid-degree))
-    (fitOut (fitOf variables w support max-degree grid-degree weights targets matrix right out)) (digits (cube support grid-degree) n))
-    % 2 ^ w
-    ≡ at targets n % 2 ^ w
-fitOf-fits variables w support max-degree grid-degree weights targets matrix right out ok =
-    fit-fits (fitOf variables w support max-degree grid-degree weights targets matrix right out) ok
-    (length-replicate (length support) grid-degree ∙ sym (length-replicate (length support) (min max-degree grid-degree)))
+      ∙ ap (λ (b : Bool). cond b (fitAnswer f) zeros) fit-succeeds

@@ -20,6 +20,7 @@ use Rattle.theory.specs.Binomials.{factorial-pos, falling-zero, falling-
 use Rattle.theory.specs.Twos.{twos-mul, twos-eq}
 use Rattle.theory.specs.DegreeCap.{degreeCap-least}
 use Rattle.theory.specs.StirlingNumbers.{signed, falling-cong-sum-power}
+use Rattle.theory.specs.Evaluation.{at-drop}
 use Rattle.theory.specs.Integers.{residue-pos, residue-add}
 use Rattle.theory.specs.PowerBoxes.{termsOf, residue-termsOf}
 use Rattle.theory.specs.WholeNumbers.{residue-coordinates}
@@ -43,10 +44,6 @@ product-none : (k : ℕ) (xs : List ℕ) → product _^_ k xs [] ≡ 1
 unfolding product
 product-none zero xs = refl
 product-none (suc k) xs = ap₂ _*_ (pow-zero (at xs 0)) (product-none k (drop 1 xs))
-
-at-drop : (xs : List ℕ) (i : ℕ) → at (drop 1 xs) i ≡ at xs (suc i)
-at-drop [] i = refl
-at-drop (x ∷ xs) i = refl
 
 product-alone : (k i j : ℕ) (xs : List ℕ) → i < k → product _^_ k xs (alone i j) ≡ at xs i ^ j
 unfolding product alone

@@ -4,7 +4,7 @@
 use mathlib.Core.Path.{_≡_, refl, sym, _∙_, ap, ap₂}
 use mathlib.Core.Logic.{_⊎_, inl, inr, ⊎-elim}
 use Prim.Native.Nat.{ℕ, zero, suc, _+_, _*_, _-_, _/_, _%_, _^_, _<_}
-use native.Mathlib.Nat.{pow-succ', mul-assoc, one-mul, mul-div-cancel-left, mul-mul-mul-comm, le-of-suc-le-suc, not-suc-le-zero, le-mul-of-pos-right, zero-lt-suc, mod-lt, add-comm, lt-of-lt-of-le, lt-of-not-le, lt-irrefl}
+use native.Mathlib.Nat.{pow-succ', mul-assoc, one-mul, mul-div-cancel-left, mul-mul-mul-comm, le-of-suc-le-suc, not-suc-le-zero, le-mul-of-pos-right, zero-lt-suc, mod-lt, add-comm, mul-comm, lt-of-lt-of-le, lt-of-not-le, lt-irrefl}
 use native.Mathlib.Numerals.{add-one}
 use native.Mathlib.Omega.{arith}
 use lib.Arith.{bin-ind}
@@ -110,6 +110,9 @@ module _ (m n : ℕ) (p : 0 < m) (q : 0 < n) where
   pub twos-mul : twos (m * n) ≡ twos m + twos n
   twos-mul = ap twos parts-mul ∙ twos-eq _ _ (odd-mul _ _ (oddPart-odd m p) (oddPart-odd n q))
 
+  pub oddPart-mul : oddPart (m * n) ≡ oddPart m * oddPart n
+  oddPart-mul = ap oddPart parts-mul ∙ oddPart-eq (twos m + twos n) _ (odd-mul _ _ (oddPart-odd m p) (oddPart-odd n q))
+
 -- ---- counting zeros
 
 -- the zeros at the end of k digits are the twos among them
@@ -135,6 +138,11 @@ trailing-eq-twos k n h l =
 pub twos-factorial : (k : ℕ) → twos (factorial (k + 1)) ≡ twos (factorial k) + twos (k + 1)
 unfolding factorial
 twos-factorial k = rw (add-one k) (twos-mul (suc k) (factorial k) (zero-lt-suc k) (factorial-pos k) ∙ add-comm (twos (suc k)) (twos (factorial k)))
+
+pub oddPart-factorial : (k : ℕ) → oddPart (factorial (k + 1)) ≡ oddPart (factorial k) * oddPart (k + 1)
+unfolding factorial
+oddPart-factorial k =
+    rw (add-one k) (oddPart-mul (suc k) (factorial k) (zero-lt-suc k) (factorial-pos k) ∙ mul-comm (oddPart (suc k)) (oddPart (factorial k)))
 
 -- ---- Legendre
 

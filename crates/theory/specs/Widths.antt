@@ -3,10 +3,10 @@
 -- the factorials is 2^(q - w) times their odd part, each difference cut at 0. Where q is w or more the bound is 1, and every number serves as an
 -- inverse: that is the only case split, and no statement has it.
 use mathlib.Core.Path.{_≡_, refl, sym, ap, ap₂, _∙_}
-use mathlib.Core.Logic.{_↔_}
+use mathlib.Core.Logic.{_↔_, _⊎_, inl, inr}
 use Prim.Native.Nat.{ℕ, _+_, _*_, _-_, _/_, _%_, _^_, _≤_, _<_, min}
 use mathlib.Core.List.{List, [], _∷_}
-use native.Mathlib.Nat.{mul-mul-mul-comm, mul-assoc, one-mul, mod-one, lt-of-not-le}
+use native.Mathlib.Nat.{mul-mul-mul-comm, mul-assoc, one-mul, mod-one, zero-mod, mod-eq-of-lt, lt-of-not-le}
 use native.Mathlib.Decide.{decLe}
 use native.Mathlib.Omega.{arith}
 use lib.Dec.{T, eqb→eq}
@@ -100,6 +100,29 @@ widthCell w es =
 pub divides-iff : (w : ℕ) (es : List ℕ) (D : ℕ) → T (divides w es D) ↔ (D % widthCell w es .g ≡ 0)
 unfolding divides
 divides-iff w es D = (eqb→eq (D % 2 ^ min (weight es) w) 0, λ e. rw e tt)
+
+-- the two cases of a difference D that passes: fewer twos in the factorials than the width, and 2^twos divides D; or as many as the width or more, and D is 0
+abbrev pub Divided : ℕ → List ℕ → ℕ → Type 0
+Divided w es D = ((weight es < w) × (D % 2 ^ weight es ≡ 0)) ⊎ ((w ≤ weight es) × (D ≡ 0))
+
+-- the test passes just so
+pub divides-cases : (w : ℕ) (es : List ℕ) (D : ℕ) → D < 2 ^ w → T (divides w es D) ↔ Divided w es D
+divides-cases w es D small = (λ t. there (decLe w (weight es)) (divides-iff w es D .0 t), λ d. divides-iff w es D .1 (back d))
+  where
+    there : Dec (w ≤ weight es) → D % 2 ^ min (weight es) w ≡ 0 → Divided w es D
+    there (yes h) e =
+        let least : min (weight es) w ≡ w = omega arith in
+        inr (h, sym (mod-eq-of-lt small) ∙ ap (λ (k : ℕ). D % 2 ^ k) (sym least) ∙ e)
+    there (no h) e =
+        let l : weight es < w = lt-of-not-le h in
+        let least : min (weight es) w ≡ weight es = omega arith in
+        inl (l, ap (λ (k : ℕ). D % 2 ^ k) (sym least) ∙ e)
+
+    back : Divided w es D → D % 2 ^ min (weight es) w ≡ 0
+    back (inl d) =
+        let least : min (weight es) w ≡ weight es = omega arith in
+        ap (λ (k : ℕ). D % 2 ^ k) least ∙ d .1
+    back (inr d) = ap (_% 2 ^ min (weight es) w) (d .1) ∙ zero-mod (2 ^ min (weight es) w)
 
 -- the coefficient of a difference is the solution of the cell
 pub coefficient-eq : (w : ℕ) (es : List ℕ) (D : ℕ) → coefficient w es D ≡ (D / widthCell w es .g * widthCell w es .u) % widthCell w es .h

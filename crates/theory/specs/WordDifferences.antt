@@ -29,6 +29,12 @@ differences-lt p v none h = h []
 differences-lt {m} p v (next {d = d} {e = e} q rest) h =
     differences-lt p (λ xs. newton m d (λ x. v (x ∷ xs)) e) rest (λ xs. diffs-lt p e (λ x. v (x ∷ xs)) (λ x. h (x ∷ xs)) 0)
 
+-- so that recovery's differences are below 2^w
+pub difference-lt : (w : ℕ) (ds v : List ℕ) (n : ℕ) → difference w ds v n < 2 ^ w
+unfolding difference
+difference-lt w ds v n =
+    differences-lt (pow-pos w) (grid (2 ^ w) ds v) (digits-within ds n) (λ xs. unfold grid in mod-lt (at v (cell ds xs)) (pow-pos w))
+
 -- the difference at a cell, from the differences modulo 2^64 of the table as it is
 pub difference-of-word : (w : ℕ) (ds v : List ℕ) (n : ℕ) → w ≤ 64
     → along (newton (2 ^ 64)) ds (λ xs. at v (cell ds xs)) (digits ds n) % 2 ^ w ≡ difference w ds v n
@@ -45,7 +51,7 @@ difference-of-word w ds v n h =
     let cut : Cong (2 ^ w) (differences (2 ^ w) ds f es) (differences (2 ^ w) ds (grid (2 ^ w) ds v) es) =
     differences-cong (pow-pos w) (λ xs k. unfold grid in cong-sym (mod-cong (2 ^ w) (f xs))) within in
     eq-of-cong (mod-lt _ (pow-pos w))
-    (differences-lt (pow-pos w) (grid (2 ^ w) ds v) within (λ xs. unfold grid in mod-lt (f xs) (pow-pos w)))
+    (difference-lt w ds v n)
     (cong-trans (mod-cong (2 ^ w) _) (cong-trans word cut))
 
 -- what extraction finds in a table of differences modulo 2^64 is recovery's verdict and answer

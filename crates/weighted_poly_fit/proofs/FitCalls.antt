@@ -18,7 +18,7 @@ use Rattle.meaning.specs.Fit.{fitCause, fitState, fitSucceeds, fitAnswer, fitNu
 use Rattle.answers.specs.declared.Refusal.{Refusal}
 use Rattle.answers.specs.Said.{code}
 use Rattle.answers.specs.Laws.{reply-code, first-code, left-code}
-use Rattle.weighted_poly_fit.specs.Fitting.{Answered, Exact, Fitted, fitWith, fitLengths, tableCause}
+use Rattle.weighted_poly_fit.specs.Fitting.{Answered, Exact, Fitted, Called, fitWith, fitLengths, tableCause}
 use Rattle.weighted_poly_fit.proofs.ColumnCount.{columns-le-cells}
 
 -- ---- sizes
@@ -148,7 +148,7 @@ module _ (f : Fit) where
   -- the settings pass
   pub call-settled : settingsNumber false (f .variables) (between 2 64 (f .width)) (f .support) (f .grid) ≡ 0 → (matrix right out : List ℕ) (r : Reply)
       → Fitted (settled f) (tableCause (settled f)) matrix right out r
-      → (r ≡ fitReply f) × ((out ≡ fitOut f) × (matrix ≡ fitMatrix f) × (right ≡ fitRight f))
+      → Called f matrix right out r
   unfolding fitReply fitNumber fitOut fitMatrix fitRight fitCause fitSucceeds fitAnswer fitState
   call-settled e matrix right out r h =
       let n : tableCause (settled f) ≡ fitCause f = sym (ap (λ (k : ℕ). first k (tableCause (settled f))) e) in (
@@ -166,7 +166,7 @@ module _ (f : Fit) where
 
   -- the settings are turned down
   pub call-turned : (r : Refusal) → settingsNumber false (f .variables) (between 2 64 (f .width)) (f .support) (f .grid) ≡ code r
-      → (refused (code r) ≡ fitReply f) × ((f .out ≡ fitOut f) × (f .matrix ≡ fitMatrix f) × (f .right ≡ fitRight f))
+      → Called f (f .matrix) (f .right) (f .out) (refused (code r))
   unfolding fitReply fitNumber fitOut fitMatrix fitRight
   call-turned r e =
       let n : fitCause f ≡ code r = cause-turned r e in

@@ -1,5 +1,8 @@
--- The words of the contracts: the listing of the columns, tables of falling factorials, the parts of the fit, and its sizes.
+-- The words of the contracts: the listing of the columns, tables of falling factorials, the parts of the fit, its sizes, and what holds of an accepted fit
+-- (Fits, with its law in FitsLaws).
 pub mod Listing
 pub mod Powers
 pub mod Fitting
 pub mod Sizes
+pub mod Fits
+pub mod FitsLaws

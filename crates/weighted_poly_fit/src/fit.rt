@@ -5,8 +5,10 @@ ghost use Prim.Native.Nat.{_*_, _≤_, min};
 ghost use lib.Dec.{eqb};
 ghost use lib.ListN.{length};
 ghost use Rattle.meaning.specs.Boxes.{cells};
+ghost use Rattle.meaning.specs.Settings.{cube};
 ghost use Rattle.meaning.specs.Fit.{fitOf, fitReply, fitOut, fitMatrix, fitRight};
-ghost use Rattle.weighted_poly_fit.specs.Fitting.{Shaped, Exact, Fitted, fitWith, tableCause};
+ghost use Rattle.weighted_poly_fit.specs.Fitting.{Shaped, Exact, Fitted, Called, fitWith, tableCause};
+ghost use Rattle.weighted_poly_fit.specs.Fits.{Fits};
 ghost use Rattle.answers.specs.Said.{said};
 use crate::columns;
 use crate::systems;
@@ -183,6 +185,45 @@ fn fit_box(
     )
 }
 
+// The fit, by its equations.
+fn weighted_fit(
+    weights: &[u64],
+    targets: &[u64],
+    support: &[u64],
+    total: u32,
+    bitwidth: u32,
+    max_degree: u8,
+    grid_degree: u8,
+    matrix: &mut [u64],
+    right: &mut [u64],
+    out: &mut [u64],
+) -> Number
+    ensures { λ r. ⌜ Called (fitOf total bitwidth (now (support .entry)) «max_degree» «grid_degree» (now (weights .entry)) (now (targets .entry))
+        (now (matrix .entry)) (now (right .entry)) (now (out .entry))) (now (matrix .exit)) (now (right .exit)) (now (out .exit)) (said r) ⌝ }
+{
+    match poly::settings(false, support, total, bitwidth, grid_degree) {
+        Number::Refused(refusal) => Number::Refused(refusal),
+        Number::Value(rows) => {
+            let degree = lesser_degree(max_degree, grid_degree);
+            let degrees = [degree; 20];
+            let grid = [grid_degree; 20];
+            fit_box(
+                weights,
+                targets,
+                &degrees[..support.len()],
+                &grid[..support.len()],
+                max_degree,
+                rows as usize,
+                degree as usize + 1,
+                bitwidth,
+                matrix,
+                right,
+                out,
+            )
+        }
+    }
+}
+
 // Fits a polynomial in falling factorials to weighted targets on the grid {0, .., grid_degree} over the support variables, modulo 2^bitwidth: exponents
 // reach at most the smaller of max_degree and grid_degree, their sum at most max_degree. `weights` and `targets` have an entry for each grid point. On
 // success `out`, a box of that smaller degree, has the coefficients, each below 2^(bitwidth - q), q being the twos in the factorials of its exponents, and
@@ -210,26 +251,19 @@ pub fn recover_weighted_poly(
         (now (targets .entry)) (now (matrix .entry)) (now (right .entry)) (now (out .entry))))
         × (now (right .exit) ≡ fitRight (fitOf total bitwidth (now (support .entry)) «max_degree» «grid_degree» (now (weights .entry))
         (now (targets .entry)) (now (matrix .entry)) (now (right .entry)) (now (out .entry)))) ⌝ }
+    ensures fits { λ r. ⌜ Fits bitwidth (cube (now (support .entry)) (min «max_degree» «grid_degree»)) (cube (now (support .entry)) «grid_degree») «max_degree»
+        (now (weights .entry)) (now (targets .entry)) (said r .number) (said r .value) (now (out .exit)) ⌝ }
 {
-    match poly::settings(false, support, total, bitwidth, grid_degree) {
-        Number::Refused(refusal) => Number::Refused(refusal),
-        Number::Value(rows) => {
-            let degree = lesser_degree(max_degree, grid_degree);
-            let degrees = [degree; 20];
-            let grid = [grid_degree; 20];
-            fit_box(
-                weights,
-                targets,
-                &degrees[..support.len()],
-                &grid[..support.len()],
-                max_degree,
-                rows as usize,
-                degree as usize + 1,
-                bitwidth,
-                matrix,
-                right,
-                out,
-            )
-        }
-    }
+    weighted_fit(
+        weights,
+        targets,
+        support,
+        total,
+        bitwidth,
+        max_degree,
+        grid_degree,
+        matrix,
+        right,
+        out,
+    )
 }

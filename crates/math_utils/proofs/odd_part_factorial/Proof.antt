@@ -43,7 +43,7 @@ returns-4 c =
     let entry : ℕ → ℕ = λ i. oddPart (factorial i) % 2 ^ 64 in
     simp (le-leb (k .k) 255 (c .before .before .before .before .if1 .left), between-true 1 64 (k .bitwidth) (omega arith) (c .before .before .if3 .left))
     (ap accepted
-    (ap₂ bitAnd (ap (λ (t : List ℕ). at t (k .k)) (c .before .odd-factorials .ensures) ∙ at-tabulate 256 entry (k .k) (omega arith)) (c .bitmask .ensures)
+    (ap₂ bitAnd (ap (λ (t : List ℕ). at t (k .k)) (c .before .odd-factorials .ensures .0) ∙ at-tabulate 256 entry (k .k) (omega arith)) (c .bitmask .ensures)
     ∙ masked-to (oddPart (factorial (k .k))) (k .bitwidth) (c .before .before .if3 .left)))
 
 pub odd-part-factorial-spec : {M : Type 1} → statement M

@@ -1,10 +1,10 @@
 -- Each local table has room for the part that is lent.
-use Rattle.byte_calls.proofs.fit.fit_held.Statement.{statement}
+use Rattle.byte_calls.proofs.rooms.fit_held.Statement.{statement}
 use borrow.Author.Needs.{needs}
 use mathlib.Core.Path.{_∙_, ap}
 use Prim.Native.Nat.{_*_}
 use Rattle.byte_calls.specs.TableLaws.{room, zeros}
-use Rattle.byte_calls.proofs.fit.fit_held.Tie as tie
+use Rattle.byte_calls.proofs.rooms.fit_held.Tie as tie
 
 pub fit-held-spec : {M : Type 1} → statement M
 unfolding zeros

@@ -1,11 +1,11 @@
 -- The support is decoded, and the columns are counted for it.
-use Rattle.byte_calls.proofs.fit.columns_in.Statement.{statement}
+use Rattle.byte_calls.proofs.rooms.columns_in.Statement.{statement}
 use borrow.Author.Needs.{needs}
 use mathlib.Core.Path.{_∙_, ap}
 use mathlib.Core.List.{List}
 use Prim.Native.Nat.{ℕ}
 use Rattle.weighted_poly_fit.specs.Sizes.{fitSettings, columnsReply}
-use Rattle.byte_calls.proofs.fit.columns_in.Tie as tie
+use Rattle.byte_calls.proofs.rooms.columns_in.Tie as tie
 
 pub columns-in-spec : {M : Type 1} → statement M
 columns-in-spec =

@@ -1,5 +1,5 @@
 -- Support, weights and targets are decoded, the fit answers on them, and what it leaves is encoded.
-use Rattle.byte_calls.proofs.fit.fit_in.Statement.{statement}
+use Rattle.byte_calls.proofs.rooms.fit_in.Statement.{statement}
 use borrow.Author.Needs.{needs}
 use mathlib.Core.Path.{_≡_, _∙_, sym, ap, ap₂}
 use mathlib.Core.List.{List}
@@ -7,7 +7,7 @@ use Prim.Native.Nat.{ℕ, _*_}
 use denote.Ref.{now}
 use Rattle.meaning.specs.Fit.{Fit, fitOf, fitReply, fitOut}
 use Rattle.byte_calls.specs.Bytes.{decoded, encoded}
-use Rattle.byte_calls.proofs.fit.fit_in.Tie as tie
+use Rattle.byte_calls.proofs.rooms.fit_in.Tie as tie
 
 abbrev support-of : tie.After-recover-weighted-poly → tie.After-decode
 support-of c = c .before .before .before .before .before .before .before .before .before .before .before .before .before .before .before .before .before
@@ -44,4 +44,4 @@ fit-in-spec =
     (λ c.
     let r = c .before .before .before .before .before .before .before .before .before .before .before in
     let e = r .recover-weighted-poly .ensures in
-    (e .0 ∙ ap fitReply (held r), c .before .before .encode .ensures ∙ ap encoded (e .1 .0 ∙ ap fitOut (held r)))))
+    (e .0 ∙ ap fitReply (held r), c .before .before .encode .ensures ∙ ap encoded (e .1 .0 .0 ∙ ap fitOut (held r)))))
