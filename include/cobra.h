@@ -87,7 +87,7 @@ extern "C" {
 /* bytes of stack that are enough for a call */
 #define COBRA_RECOVER_STACK 98304u
 #define COBRA_VALUE_STACK 65536u
-#define COBRA_FIT_STACK 1048576u
+#define COBRA_FIT_STACK 327680u
 
 /*
  * Recovers a polynomial from its values on a grid.

@@ -1,6 +1,7 @@
 // Calls on linear systems modulo 2^w: the solvers of `two_adic_solver`. What a call does is said there.
 ghost use mathlib.Core.Path.{_≡_};
 ghost use Rattle.meaning.specs.Elimination.{solverNumber, solverMatrix, solverRight, solverAnswer};
+ghost use Rattle.two_adic_solver.specs.Solves.{Solves};
 ghost use Rattle.cobra.specs.Systems.{fourNumber, fourAnswer};
 
 // Solves a system by elimination in the lent matrix and right side.
@@ -16,6 +17,7 @@ pub extern "C" fn cobra_solve_2adic(
     ensures matrix { λ r. ⌜ now (matrix .exit) ≡ solverMatrix width columns (now (matrix .entry)) (now (right .entry)) (now (answer .entry)) ⌝ }
     ensures right { λ r. ⌜ now (right .exit) ≡ solverRight width columns (now (matrix .entry)) (now (right .entry)) (now (answer .entry)) ⌝ }
     ensures answer { λ r. ⌜ now (answer .exit) ≡ solverAnswer width columns (now (matrix .entry)) (now (right .entry)) (now (answer .entry)) ⌝ }
+    ensures solves { λ r. ⌜ (r ≡ 0 → Solves width columns (now (matrix .entry)) (now (right .entry)) (now (answer .exit))) ⌝ }
 {
     answers::outcome_code(two_adic_solver::solver::solve_2adic(
         matrix,
@@ -37,6 +39,7 @@ pub extern "C" fn cobra_solve_2adic_fixed(
 ) -> u32
     ensures says { λ r. ⌜ r ≡ fourNumber width (now (matrix .entry)) (now (right .entry)) (now (answer .entry)) ⌝ }
     ensures leaves { λ r. ⌜ now (answer .exit) ≡ fourAnswer width (now (matrix .entry)) (now (right .entry)) (now (answer .entry)) ⌝ }
+    ensures solves { λ r. ⌜ (r ≡ 0 → Solves width 4 (now (matrix .entry)) (now (right .entry)) (now (answer .exit))) ⌝ }
 {
     if width < 2 {
         return 3;

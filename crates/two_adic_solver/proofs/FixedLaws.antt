@@ -5,8 +5,9 @@ use mathlib.Core.Bool.{cond}
 use mathlib.Core.List.{List, [], _∷_, _++_}
 use mathlib.Core.Logic.{⊎-elim, _⊎_}
 use Prim.Native.Nat.{ℕ, zero, suc, _+_, _*_, _-_, _%_, _^_, _≤_, _<_, min, suc-le-suc}
-use native.Mathlib.Nat.{zero-add, suc-add, zero-lt-suc, not-suc-le-zero, le-refl, le-of-suc-le-suc, eq-or-lt-of-le, ne-of-lt, ne-of-gt, min-eq-left}
+use native.Mathlib.Nat.{zero-add, suc-add, zero-lt-suc, not-suc-le-zero, le-refl, le-of-suc-le-suc, eq-or-lt-of-le, ne-of-lt, ne-of-gt, min-eq-left, lt-of-not-le}
 use native.Mathlib.Numerals.{add-one}
+use native.Mathlib.Decide.{decLe}
 use native.Mathlib.Omega.{arith}
 use lib.Dec.{ltb}
 use lib.ListN.{length, getD, set, length-set}
@@ -142,9 +143,12 @@ pub record RowLess (w q p i c : ℕ) (m₀ m : List (List ℕ)) (k : ℕ) : Type
   pub square : Square m
   pub from : c ≤ k
   pub within : k ≤ 4
-  pub less : Subtracted (2 ^ w) q (p * 4 + c) (i * 4 + c) (k - c) (joined m₀) (joined m)
+  pub less : Subtracted (2 ^ w) q (i * 4 + c) (k - c) (λ j. at (joined m₀) (p * 4 + c + j)) (joined m₀) (joined m)
 
 module _ (w q p i c : ℕ) (m₀ : List (List ℕ)) where
+  abbrev Less : ℕ → List ℕ → Type 0
+  Less n t = Subtracted (2 ^ w) q (i * 4 + c) n (λ j. at (joined m₀) (p * 4 + c + j)) (joined m₀) t
+
   pub less-start : Square m₀ → c < 4 → RowLess w q p i c m₀ m₀ c
   less-start s l =
       let e : 0 ≡ c - c = omega arith in
@@ -152,11 +156,15 @@ module _ (w q p i c : ℕ) (m₀ : List (List ℕ)) where
         square = s;
         from = le-refl c;
         within = omega arith;
-        less = subst (λ (n : ℕ). Subtracted (2 ^ w) q (p * 4 + c) (i * 4 + c) n (joined m₀) (joined m₀)) e
-            (subtracted-start (2 ^ w) q (p * 4 + c) (i * 4 + c) 0 (joined m₀));
+        less = subst (λ (n : ℕ). Less n (joined m₀)) e (subtracted-start (2 ^ w) q (i * 4 + c) _ (joined m₀));
       }
 
   module _ (m : List (List ℕ)) (k : ℕ) (h : RowLess w q p i c m₀ m k) where
+    -- the source's number is not among those done
+    source : p < 4 → i < 4 → k < 4 → Dec (i ≤ p) → at (joined m) (p * 4 + k) ≡ at (joined m₀) (p * 4 + k)
+    source lp li lk (yes l) = h .less .after (p * 4 + k) (omega (arith, h .from))
+    source lp li lk (no l) = h .less .before (p * 4 + k) (omega (arith, lt-of-not-le l))
+
     pub less-step : p < 4 → i < 4 → k < 4 → (v : ℕ) → v ≡ minus (2 ^ w) (at (getD m i []) k) (q * at (getD m p []) k)
         → RowLess w q p i c m₀ (set m i (set (getD m i []) k v)) (k + 1)
     less-step lp li lk v e =
@@ -164,27 +172,25 @@ module _ (w q p i c : ℕ) (m₀ : List (List ℕ)) where
         let ni : i * 4 + c + (k - c) ≡ i * 4 + k = omega arith in
         let np : p * 4 + c + (k - c) ≡ p * 4 + k = omega arith in
         let nk : k - c + 1 ≡ k + 1 - c = omega arith in
-        let value : v ≡ minus (2 ^ w) (at (joined m) (i * 4 + c + (k - c))) (q * at (joined m) (p * 4 + c + (k - c))) =
+        let value : v ≡ minus (2 ^ w) (at (joined m) (i * 4 + c + (k - c))) (q * at (joined m₀) (p * 4 + c + (k - c))) =
         e ∙ ap₂ (λ (x y : ℕ). minus (2 ^ w) x (q * y))
         (sym (ap (at (joined m)) ni ∙ joined-entry (h .square) i k li lk))
-        (sym (ap (at (joined m)) np ∙ joined-entry (h .square) p k lp lk)) in
-        let next : Subtracted (2 ^ w) q (p * 4 + c) (i * 4 + c) (k - c + 1) (joined m₀) (set (joined m) (i * 4 + c + (k - c)) v) =
-        subtracted-step (2 ^ w) q (p * 4 + c) (i * 4 + c) (4 - c) (joined m₀) (joined m) (k - c) v (h .less)
-        (λ l. omega arith) (omega arith) (omega (arith, joined-length (h .square))) value in
+        (sym (ap (at (joined m₀)) np ∙ sym (source lp li lk (decLe i p)) ∙ joined-entry (h .square) p k lp lk)) in
+        let next : Less (k - c + 1) (set (joined m) (i * 4 + c + (k - c)) v) =
+        subtracted-step (2 ^ w) q (i * 4 + c) _ (joined m₀) (joined m) (k - c) v (h .less) (omega (arith, joined-length (h .square))) value in
         record {
           square = square-set (h .square) i _ li (length-set (getD m i []) k v ∙ h .square .row i li);
           from = omega arith;
           within = omega arith;
           less =
-              subst (λ (n : ℕ). Subtracted (2 ^ w) q (p * 4 + c) (i * 4 + c) n (joined m₀) (joined (set m i (set (getD m i []) k v)))) nk
-              (subst (Subtracted (2 ^ w) q (p * 4 + c) (i * 4 + c) (k - c + 1) (joined m₀))
-              (ap (λ (n : ℕ). set (joined m) n v) ni ∙ sym (joined-set (h .square) i k v li lk)) next);
+              subst (λ (n : ℕ). Less n (joined (set m i (set (getD m i []) k v)))) nk
+              (subst (Less (k - c + 1)) (ap (λ (n : ℕ). set (joined m) n v) ni ∙ sym (joined-set (h .square) i k v li lk)) next);
         }
 
-    pub less-done : 4 ≤ k → Subtracted (2 ^ w) q (p * 4 + c) (i * 4 + c) (4 - c) (joined m₀) (joined m)
+    pub less-done : 4 ≤ k → Less (4 - c) (joined m)
     less-done l =
         let e : k ≡ 4 = omega (arith, h .within) in
-        subst (λ (n : ℕ). Subtracted (2 ^ w) q (p * 4 + c) (i * 4 + c) (n - c) (joined m₀) (joined m)) e (h .less)
+        subst (λ (n : ℕ). Less (n - c) (joined m)) e (h .less)
 
 -- ---- the sum of products along row p, behind column c
 

@@ -1,16 +1,15 @@
 -- The rows of a flat matrix: the search for a pivot, one turn more, and a row less a multiple of another, number by number and as a part of a table.
 use mathlib.Core.Path.{_≡_, refl, sym, ap, ap₂, _∙_}
 use mathlib.Core.Bool.{Bool, true, false, cond, _&&_}
-use mathlib.Core.List.{List}
+use mathlib.Core.List.{List, _++_}
 use mathlib.Core.Logic.{⊎-elim, _⊎_, inl, inr}
-use Prim.Native.Nat.{ℕ, _+_, _*_, _-_, _%_, _^_, _≤_, _<_, min}
-use native.Mathlib.Nat.{not-suc-le-zero, le-refl, ne-of-lt, ne-of-gt, eq-or-lt-of-le, le-of-suc-le-suc, le-of-lt, le-antisymm, min-eq-left, min-eq-right}
+use Prim.Native.Nat.{ℕ, zero, suc, _+_, _*_, _-_, _%_, _^_, _≤_, _<_, min, zero-le}
+use native.Mathlib.Nat.{zero-add, suc-add, not-suc-le-zero, le-refl, ne-of-lt, ne-of-gt, eq-or-lt-of-le, le-of-suc-le-suc, le-of-lt, le-antisymm, min-eq-left, min-eq-right}
 use native.Mathlib.Numerals.{add-one}
-use native.Mathlib.Decide.{decLe}
 use native.Mathlib.Omega.{arith}
 use lib.Bits.{bitAnd}
-use lib.Dec.{ltb}
-use borrow.Author.Tests.{eq-eqb}
+use lib.Dec.{ltb, eqb}
+use borrow.Author.Tests.{eq-eqb, le-ltb}
 use Rattle.meaning.specs.Inverses.{inverse}
 use Rattle.meaning.specs.Leaves.{inverseReply}
 use Rattle.meaning.specs.Replies.{Reply, accepted, refused}
@@ -22,18 +21,20 @@ use Rattle.answers.specs.declared.Refusal.the-variants.{EmptySupport, TooManyVa
 use lib.Arith.{digits-lt}
 use lib.Count.{trailingZeros}
 use Rattle.meaning.specs.Factorials.{twosIn}
+use Rattle.theory.specs.Pivots.{Found, Missing, lowest-cases}
 use Rattle.theory.specs.Trailing.{trailing-cut}
 use lib.Pow.{pow-pos}
-use lib.ListN.{length, set, length-set, List·getD-eq-default}
-use lib.Seq.{getD-set-same, getD-set-other}
-use Rattle.meaning.specs.Tables.{at}
+use lib.ListN.{length, getD, set, take, drop, length-set, List·getD-append, List·getD-eq-default}
+use lib.Seq.{getD-set-same, getD-set-other, length-take-le}
+use Rattle.meaning.specs.Tables.{at, tabulate}
 use Rattle.meaning.specs.Differences.{minus}
 use Rattle.meaning.specs.Elimination.{Lowest, lowest}
 use Rattle.theory.specs.Congruence.{cong-of-eq, mod-cong}
 use Rattle.theory.specs.Words.{minus-masked, cong-of-pow}
 use Rattle.theory.specs.Congruence.{minus-cong}
+use Rattle.theory.specs.Tables.{length-tabulate, at-tabulate}
 use Rattle.theory.specs.Parts.{part, put, length-part, at-part, length-put, at-put-before, at-put-within, at-put-after}
-use Rattle.two_adic_solver.specs.Rows.{Subtracted}
+use Rattle.two_adic_solver.specs.Rows.{Subtracted, Spanned, heightOf}
 
 -- ---- the search
 
@@ -74,7 +75,45 @@ module _ (w rows cols c : ℕ) (h : ℕ → ℕ) where
         within = omega arith;
       })
 
+lowest-le : (none w : ℕ) (h : ℕ → ℕ) (n : ℕ) → lowest none w h n .twos ≤ w
+lowest-le none w h n =
+    ⊎-elim (λ (f : Found w h n (lowest none w h n)). le-of-lt (f .low))
+    (λ (m : Missing none w h n (lowest none w h n)). rw (m .twos-eq) (le-refl w)) (lowest-cases none w h n)
+
+-- once the least is 0 no row is lower
+lowest-odd : (none w : ℕ) (h : ℕ → ℕ) (n k : ℕ) → lowest none w h n .twos ≡ 0 → lowest none w h (k + n) ≡ lowest none w h n
+unfolding lowest
+lowest-odd none w h n zero e = ap (lowest none w h) (zero-add n)
+lowest-odd none w h n (suc k) e =
+    let b = lowest-odd none w h n k e in
+    let t : ltb (h (k + n)) (lowest none w h (k + n) .twos) ≡ false =
+    le-ltb (h (k + n)) (lowest none w h (k + n) .twos) (rw (ap (λ (l : Lowest). l .twos) b ∙ e) zero-le) in
+    ap (lowest none w h) (suc-add k n)
+    ∙ ap (λ (x : Bool). cond x (record { row = k + n; twos = h (k + n) }) (lowest none w h (k + n))) t
+    ∙ b
+
 module _ {w rows cols c : ℕ} {h : ℕ → ℕ} {row least place i : ℕ} (s : Searched w rows cols c h row least place i) where
+  -- a row with the greatest height is passed over
+  pub searched-skip : i < rows → h i ≡ w → Searched w rows cols c h row least (place + cols) (i + 1)
+  searched-skip l e =
+      let most : least ≤ w = rw (s .least-eq) (lowest-le rows w h i) in
+      let t : ltb (h i) least ≡ false = le-ltb (h i) least (rw e most) in
+      let n = searched-step w rows cols c h row least place i (h i) s l refl in
+      record {
+        row-eq = sym (ap (λ (b : Bool). cond b i row) t) ∙ n .row-eq;
+        least-eq = sym (ap (λ (b : Bool). cond b (h i) least) t) ∙ n .least-eq;
+        place-eq = n .place-eq;
+        within = n .within;
+      }
+
+  -- the search may end at an odd entry
+  pub searched-odd : least ≡ 0 → row ≡ lowest rows w h rows .row
+  searched-odd e =
+      let whole : rows - i + i ≡ rows = omega (arith, s .within) in
+      s .row-eq
+      ∙ sym (ap (λ (l : Lowest). l .row) (lowest-odd rows w h i (rows - i) (sym (s .least-eq) ∙ e)))
+      ∙ ap (λ (n : ℕ). lowest rows w h n .row) whole
+
   -- the next entry lies in the matrix
   pub place-within : {n : ℕ} → i < rows → c < cols → n ≡ rows * cols → place < n
   place-within l k e = rw (e, s .place-eq) (digits-lt l k)
@@ -92,6 +131,17 @@ module _ (used : Bool) (w n : ℕ) (free : used ≡ false) (small : w ≤ 64) wh
 
   pub height-high : w ≤ trailingZeros 64 n → w ≡ cond used w (twosIn w n)
   height-high l = sym (ap (λ (b : Bool). cond b w (twosIn w n)) free ∙ sym (trailing-cut w 64 n small) ∙ min-eq-right l)
+
+-- a row's height, by its mark and the place of its entry
+module _ (w cols c i : ℕ) (mat : List ℕ) (used : List Bool) where
+  pub height-used : getD used i false ≡ true → heightOf w cols mat used c i ≡ w
+  unfolding heightOf
+  height-used e = ap (λ (b : Bool). cond b w (twosIn w (at mat (i * cols + c)))) e
+
+  pub height-free : getD used i false ≡ false → (place n : ℕ) → place ≡ i * cols + c → n ≡ twosIn w (at mat place) → n ≡ heightOf w cols mat used c i
+  unfolding heightOf
+  height-free e place n l h =
+      h ∙ ap (λ (p : ℕ). twosIn w (at mat p)) l ∙ sym (ap (λ (b : Bool). cond b w (twosIn w (at mat (i * cols + c)))) e)
 
 -- ---- the inverse of an odd number
 
@@ -134,14 +184,14 @@ less-masked a b w mask h e =
 
 -- ---- a row less a multiple of another
 
-module _ (m q s d n : ℕ) (t₀ : List ℕ) where
-  pub subtracted-start : Subtracted m q s d 0 t₀ t₀
+module _ (m q d : ℕ) (src : ℕ → ℕ) (t₀ : List ℕ) where
+  pub subtracted-start : Subtracted m q d 0 src t₀ t₀
   subtracted-start = record { same = refl; inside = λ k p. absurd (not-suc-le-zero p); before = λ j p. refl; after = λ j p. refl }
 
   -- one number more
-  pub subtracted-step : (t : List ℕ) (k v : ℕ) → Subtracted m q s d k t₀ t → (s < d → s + n ≤ d) → k < n → d + n ≤ length t
-      → v ≡ minus m (at t (d + k)) (q * at t (s + k)) → Subtracted m q s d (k + 1) t₀ (set t (d + k) v)
-  subtracted-step t k v r apart l fits e =
+  pub subtracted-step : (t : List ℕ) (k v : ℕ) → Subtracted m q d k src t₀ t → d + k < length t → v ≡ minus m (at t (d + k)) (q * src k)
+      → Subtracted m q d (k + 1) src t₀ (set t (d + k) v)
+  subtracted-step t k v r fits e =
       record {
         same = length-set t (d + k) v ∙ r .same;
         inside = λ j p. inside j (eq-or-lt-of-le (le-of-suc-le-suc (rw (add-one k) at p)));
@@ -149,72 +199,42 @@ module _ (m q s d n : ℕ) (t₀ : List ℕ) where
         after = λ j p. getD-set-other t (d + k) j v 0 (ne-of-gt (omega arith)) ∙ r .after j (omega arith);
       }
     where
-      source : Dec (d ≤ s) → at t (s + k) ≡ at t₀ (s + k)
-      source (yes h) = r .after (s + k) (omega arith)
-      source (no h) = r .before (s + k) (omega (arith, apart (omega arith)))
+      here : at (set t (d + k) v) (d + k) ≡ minus m (at t₀ (d + k)) (q * src k)
+      here = getD-set-same t (d + k) v 0 fits ∙ e ∙ ap (λ (a : ℕ). minus m a (q * src k)) (r .after (d + k) (le-refl (d + k)))
 
-      here : at (set t (d + k) v) (d + k) ≡ minus m (at t₀ (d + k)) (q * at t₀ (s + k))
-      here =
-          getD-set-same t (d + k) v 0 (omega arith)
-          ∙ e
-          ∙ ap₂ (λ (a b : ℕ). minus m a (q * b)) (r .after (d + k) (le-refl (d + k))) (source (decLe d s))
-
-      inside : (j : ℕ) → (j ≡ k) ⊎ (j < k) → at (set t (d + k) v) (d + j) ≡ minus m (at t₀ (d + j)) (q * at t₀ (s + j))
+      inside : (j : ℕ) → (j ≡ k) ⊎ (j < k) → at (set t (d + k) v) (d + j) ≡ minus m (at t₀ (d + j)) (q * src j)
       inside j o =
           ⊎-elim (λ (p : j ≡ k). rw p here)
           (λ (p : j < k). getD-set-other t (d + k) (d + j) v 0 (ne-of-lt (omega arith)) ∙ r .inside j p) o
 
-  -- all of them
-  pub subtracted-done : (t : List ℕ) (k : ℕ) → Subtracted m q s d k t₀ t → k ≤ n → n ≤ k → Subtracted m q s d n t₀ t
-  subtracted-done t k r a b =
-      record {
-        same = r .same;
-        inside = λ j p. r .inside j (omega arith);
-        before = r .before;
-        after = λ j p. r .after j (omega arith);
-      }
+-- done in a lent part of a table, which then takes the part's place
+pub subtracted-part : (m q d n : ℕ) (src t ys : List ℕ) → d + n ≤ length t
+    → ys ≡ tabulate (length (part d (d + n) t)) (λ k. minus m (at (part d (d + n) t) k) (q * at src k))
+    → Subtracted m q d n (at src) t (put d (d + n) t ys)
+subtracted-part m q d n src t ys fits e =
+    record {
+      same = length-put d (d + n) t fits order ys whole;
+      inside =
+          λ k p.
+          at-put-within d (d + n) t fits order ys whole k (within k p)
+          ∙ ap (λ (y : List ℕ). at y k) e
+          ∙ at-tabulate _ _ k (rw size (within k p))
+          ∙ ap (λ (x : ℕ). minus m x (q * at src k)) (at-part d (d + n) t fits k (within k p));
+      before = at-put-before d (d + n) t fits order ys whole;
+      after = at-put-after d (d + n) t fits order ys whole;
+    }
+  where
+    order : d ≤ d + n
+    order = omega arith
 
--- done in a part of a table
-module _ (m q s d n a e s′ d′ : ℕ) (t ys : List ℕ) (r : Subtracted m q s′ d′ n (part a e t) ys)
-    (es : s ≡ a + s′) (ed : d ≡ a + d′) (fs : s + n ≤ e) (fd : d + n ≤ e) (fits : e ≤ length t) (order : a ≤ e) where
-  same-part : length ys ≡ e - a
-  same-part = r .same ∙ length-part a e t fits
+    size : length (part d (d + n) t) ≡ d + n - d
+    size = length-part d (d + n) t fits
 
-  in-part : (j : ℕ) → a ≤ j → j < e → at (part a e t) (j - a) ≡ at t j
-  in-part j h l =
-      let back : a + (j - a) ≡ j = omega arith in
-      at-part a e t fits (j - a) (omega arith) ∙ ap (at t) back
+    whole : length ys ≡ d + n - d
+    whole = ap length e ∙ length-tabulate _ _ ∙ size
 
-  in-put : (j : ℕ) → a ≤ j → j < e → at (put a e t ys) j ≡ at ys (j - a)
-  in-put j h l =
-      let there : j ≡ a + (j - a) = omega arith in
-      ap (at (put a e t ys)) there ∙ at-put-within a e t fits order ys same-part (j - a) (omega arith)
-
-  pub subtracted-part : Subtracted m q s d n t (put a e t ys)
-  subtracted-part =
-      record {
-        same = length-put a e t fits order ys same-part;
-        inside =
-            λ k p.
-            let dk : d + k - a ≡ d′ + k = omega arith in
-            let sk : s + k - a ≡ s′ + k = omega arith in
-            in-put (d + k) (omega arith) (omega arith)
-            ∙ ap (at ys) dk
-            ∙ r .inside k p
-            ∙ ap₂ (λ (x y : ℕ). minus m x (q * y))
-            (ap (at (part a e t)) (sym dk) ∙ in-part (d + k) (omega arith) (omega arith))
-            (ap (at (part a e t)) (sym sk) ∙ in-part (s + k) (omega arith) (omega arith));
-        before = λ j p. before j p (decLe a j);
-        after = λ j p. after j p (decLe e j);
-      }
-    where
-      before : (j : ℕ) → j < d → Dec (a ≤ j) → at (put a e t ys) j ≡ at t j
-      before j p (yes h) = in-put j h (omega arith) ∙ r .before (j - a) (omega arith) ∙ in-part j h (omega arith)
-      before j p (no h) = at-put-before a e t fits order ys same-part j (omega arith)
-
-      after : (j : ℕ) → d + n ≤ j → Dec (e ≤ j) → at (put a e t ys) j ≡ at t j
-      after j p (yes h) = at-put-after a e t fits order ys same-part j h
-      after j p (no h) = in-put j (omega arith) (omega arith) ∙ r .after (j - a) (omega arith) ∙ in-part j (omega arith) (omega arith)
+    within : (k : ℕ) → k < n → k < d + n - d
+    within k p = omega arith
 
 -- ---- up to the last number that is not 0
 
@@ -228,3 +248,36 @@ span-step t n pos far e j h = go (eq-or-lt-of-le h)
     go : (n - 1 ≡ j) ⊎ (n - 1 < j) → at t j ≡ 0
     go (inl p) = ap (at t) (sym p) ∙ e
     go (inr p) = far j (omega arith)
+
+-- copied to the start of a room
+pub spanned : (a e : ℕ) (t u ys : List ℕ) (n : ℕ) → a ≤ e → e ≤ length t → e - a ≤ length u → n ≤ length (part a e t)
+    → ((j : ℕ) → n ≤ j → at (part a e t) j ≡ 0) → ys ≡ cond (eqb (length (part a (a + n) t)) (length (take n u))) (part a (a + n) t) (take n u)
+    → Spanned a e t (ys ++ drop n u) n
+spanned a e t u ys n order fits room l zeros c =
+    record {
+      within = short;
+      copied =
+          λ k p.
+          List·getD-append ys (drop n u) 0 k (rw (ap length whole ∙ from) p)
+          ∙ ap (λ (y : List ℕ). at y k) whole
+          ∙ at-part a (a + n) t (omega (arith, short)) k (omega arith);
+      zeros =
+          λ j p q.
+          let back : a + (j - a) ≡ j = omega arith in
+          sym (at-part a e t fits (j - a) (omega arith) ∙ ap (at t) back) ∙ zeros (j - a) (omega arith);
+    }
+  where
+    size : length (part a e t) ≡ e - a
+    size = length-part a e t fits
+
+    short : a + n ≤ e
+    short = omega (arith, size)
+
+    from : length (part a (a + n) t) ≡ n
+    from = length-part a (a + n) t (omega (arith, short)) ∙ omega arith
+
+    held : length (take n u) ≡ n
+    held = length-take-le n u (omega (arith, size))
+
+    whole : ys ≡ part a (a + n) t
+    whole = c ∙ ap (λ (b : Bool). cond b (part a (a + n) t) (take n u)) (eq-eqb _ _ (from ∙ sym held))

@@ -8,12 +8,18 @@ use Rattle.meaning.specs.Tables.{at}
 use Rattle.meaning.specs.Differences.{minus}
 use Rattle.meaning.specs.Factorials.{twosIn}
 
--- t is t₀, but for the n numbers from `dst` on: each less q times the number as far behind `src`, modulo m
-pub record Subtracted (m q src dst n : ℕ) (t₀ t : List ℕ) : Type 0 where
+-- t is t₀, but for the n numbers from `dst` on: each less q times the number of `src`, modulo m
+pub record Subtracted (m q dst n : ℕ) (src : ℕ → ℕ) (t₀ t : List ℕ) : Type 0 where
   pub same : length t ≡ length t₀
-  pub inside : (k : ℕ) → k < n → at t (dst + k) ≡ minus m (at t₀ (dst + k)) (q * at t₀ (src + k))
+  pub inside : (k : ℕ) → k < n → at t (dst + k) ≡ minus m (at t₀ (dst + k)) (q * src k)
   pub before : (j : ℕ) → j < dst → at t j ≡ at t₀ j
   pub after : (j : ℕ) → dst + n ≤ j → at t j ≡ at t₀ j
+
+-- u begins with the n numbers of t from place a on, behind which t is 0 up to place e
+pub record Spanned (a e : ℕ) (t u : List ℕ) (n : ℕ) : Type 0 where
+  pub within : a + n ≤ e
+  pub copied : (k : ℕ) → k < n → at u k ≡ at t (a + k)
+  pub zeros : (j : ℕ) → a + n ≤ j → j < e → at t j ≡ 0
 
 -- the height of row i in column c, read off a matrix and the list of the used rows
 unfoldable pub heightOf : ℕ → ℕ → List ℕ → List Bool → ℕ → ℕ → ℕ

@@ -2,11 +2,12 @@
 use mathlib.Core.Path.{_≡_}
 use mathlib.Core.Bool.{Bool, false, cond}
 use mathlib.Core.List.{List}
-use Prim.Native.Nat.{ℕ, _*_, _^_, _<_}
-use lib.ListN.{getD}
+use Prim.Native.Nat.{ℕ, _+_, _*_, _-_, _/_, _^_, _≤_, _<_}
+use lib.ListN.{length, getD}
 use lib.Dec.{eqb, ltb}
 use Rattle.meaning.specs.Tables.{at}
 use Rattle.meaning.specs.Differences.{minus}
+use Rattle.meaning.specs.Inverses.{inverse}
 use Rattle.meaning.specs.Elimination.{State, quotient, chosen, step}
 use Rattle.theory.specs.Elimination.{kept}
 use Rattle.theory.specs.Echelon.{Echelon}
@@ -24,6 +25,15 @@ clearedRow used w t p c i s =
       used = s .used;
       pivot = s .pivot;
     }
+
+-- v is the inverse of the odd part of row p's entry in column c, which has t twos; `source` has row p from that column on, up to its last entry that
+-- is not 0, and `side` its right side
+pub record PivotRow (w cols c p t v : ℕ) (source : List ℕ) (side : ℕ) (s : State) : Type 0 where
+  pub inverse-eq : v ≡ inverse (s .entry p c / 2 ^ t) (w - t)
+  pub entries : (k : ℕ) → k < length source → at source k ≡ s .entry p (c + k)
+  pub right : side ≡ s .entry p cols
+  pub before : (j : ℕ) → j < c → s .entry p j ≡ 0
+  pub after : (j : ℕ) → c + length source ≤ j → j < cols → s .entry p j ≡ 0
 
 -- the first k rows after the step of column c, the others before it
 unfoldable pub upTo : ℕ → ℕ → State → ℕ → ℕ → State

@@ -1,38 +1,35 @@
 // The elimination on a matrix and a right side: rows cleared by a pivot row, column after column.
 ghost use mathlib.Core.Path.{_≡_};
 ghost use mathlib.Core.Bool.{true, false};
-ghost use Prim.Native.Nat.{ℕ, _+_, _*_, _-_, _/_, _^_, _≤_, _<_};
+ghost use Prim.Native.Nat.{ℕ, _+_, _*_, _^_, _≤_, _<_};
 ghost use lib.ListN.{length};
 ghost use Rattle.meaning.specs.Tables.{at};
 ghost use Rattle.meaning.specs.Factorials.{twosIn};
-ghost use Rattle.meaning.specs.Inverses.{inverse};
 ghost use Rattle.meaning.specs.Elimination.{State, step, forward};
 ghost use Rattle.theory.specs.ShownStates.{Shows};
-ghost use Rattle.two_adic_solver.specs.Shown.{clearedRow, Clearing, Shown};
+ghost use Rattle.two_adic_solver.specs.Shown.{clearedRow, Clearing, PivotRow, Shown};
 use crate::rows;
 
 // Clears column `column` in one row, unless it is used: the pivot row, whose entry there has the given twos and the inverse v of its odd part, is
-// subtracted as often as it takes, in `count` columns from that one on and in the right side. The pivot row is 0 in the others.
+// subtracted as often as it takes. `source` has its entries from that column on, as far as they are not 0, and `side` its right side.
 fn clear_row(
     matrix: &mut [u64],
     right: &mut [u64],
+    source: &[u64],
+    side: u64,
     used: bool,
     columns: usize,
     column: usize,
-    count: usize,
-    pivot: usize,
     row: usize,
     twos: u32,
     v: u64,
     bitwidth: u32,
 )
-    requires { ⌜ (length (now matrix) ≡ length (now right) * columns) × (length (now matrix) ≤ 65536) × (column < columns) × (pivot < length (now right)) × (row < length (now right)) ⌝ }
-    requires { ⌜ (twos < bitwidth) × (bitwidth ≤ 64) × (column + count ≤ columns) ⌝ }
-    ensures { λ r. ⌜ ((s : State) → Shows (length (now (right .entry))) columns s (now (matrix .entry)) (now (right .entry))
-        → v ≡ inverse (s .entry pivot column / 2 ^ twos) (bitwidth - twos)
-        → ((j : ℕ) → s .entry row j < 2 ^ bitwidth) → ((j : ℕ) → j < column → s .entry pivot j ≡ 0)
-        → ((j : ℕ) → column + count ≤ j → j < columns → s .entry pivot j ≡ 0)
-        → Shows (length (now (right .entry))) columns (clearedRow used bitwidth twos pivot column row s) (now (matrix .exit)) (now (right .exit))) ⌝ }
+    requires { ⌜ (length (now matrix) ≡ length (now right) * columns) × (length (now matrix) ≤ 65536) × (column < columns) × (row < length (now right)) ⌝ }
+    requires { ⌜ (twos < bitwidth) × (bitwidth ≤ 64) × (column + length (now source) ≤ columns) ⌝ }
+    ensures { λ r. ⌜ ((s : State) (p : ℕ) → Shows (length (now (right .entry))) columns s (now (matrix .entry)) (now (right .entry))
+        → PivotRow bitwidth columns column p twos v (now (source .entry)) side s → ((j : ℕ) → s .entry row j < 2 ^ bitwidth)
+        → Shows (length (now (right .entry))) columns (clearedRow used bitwidth twos p column row s) (now (matrix .exit)) (now (right .exit))) ⌝ }
 {
     if used {
         return;
@@ -43,41 +40,50 @@ fn clear_row(
         return;
     }
     let q = rows::multiplier(entry, twos, v, bitwidth);
-    rows::subtract_row(matrix, pivot * columns + column, target, count, q, bitwidth);
-    right[row] = rows::less(right[row], q, right[pivot], bitwidth);
+    rows::subtract_row(
+        &mut matrix[target..target + source.len()],
+        source,
+        q,
+        bitwidth,
+    );
+    right[row] = rows::less(right[row], q, side, bitwidth);
 }
 
-// Clears a column: its pivot row, which is marked as used, is subtracted from the rows that are not, up to its last entry that is not 0.
+// Clears a column: its pivot row, which is marked as used, is subtracted from the rows that are not, up to its last entry that is not 0. That part of it
+// is copied to `room` first.
 fn clear_column(
     matrix: &mut [u64],
     right: &mut [u64],
     used: &[bool],
+    room: &mut [u64],
     columns: usize,
     column: usize,
     pivot: usize,
     bitwidth: u32,
 )
     requires { ⌜ (length (now matrix) ≡ length (now right) * columns) × (length (now matrix) ≤ 65536) × (column < columns) × (pivot < length (now right)) ⌝ }
-    requires { ⌜ (length (now right) ≤ length (now used)) × (twosIn bitwidth (at (now matrix) (pivot * columns + column)) < bitwidth) × (bitwidth ≤ 64) ⌝ }
+    requires { ⌜ (length (now right) ≤ length (now used)) × (twosIn bitwidth (at (now matrix) (pivot * columns + column)) < bitwidth) × (bitwidth ≤ 64)
+        × (columns ≤ length (now room)) ⌝ }
     ensures { λ r. ⌜ ((s : State) → Shows (length (now (right .entry))) columns s (now (matrix .entry)) (now (right .entry))
         → Clearing bitwidth (length (now (right .entry))) column pivot (now (used .entry)) s
         → Shows (length (now (right .entry))) columns (step bitwidth (length (now (right .entry))) s column) (now (matrix .exit)) (now (right .exit))) ⌝ }
 {
-    let entry = matrix[pivot * columns + column];
+    let start = pivot * columns;
+    let entry = matrix[start + column];
     let twos = rows::height(entry, false, bitwidth);
     let v = rows::pivot_inverse(entry, twos, bitwidth);
-    let start = pivot * columns;
-    let count = rows::span(&matrix[start + column..start + columns]);
+    let count = rows::copy_span(matrix, start + column, start + columns, room);
+    let side = right[pivot];
     let mut row = 0;
     while row < right.len() {
         clear_row(
             matrix,
             right,
+            &room[..count],
+            side,
             used[row],
             columns,
             column,
-            count,
-            pivot,
             row,
             twos,
             v,
@@ -94,12 +100,13 @@ fn eliminate_column(
     right: &mut [u64],
     used: &mut [bool],
     pivots: &mut [usize],
+    room: &mut [u64],
     columns: usize,
     column: usize,
     bitwidth: u32,
 )
     requires { ⌜ (length (now matrix) ≡ length (now right) * columns) × (length (now matrix) ≤ 65536) × (column < columns) × (columns ≤ 65536) ⌝ }
-    requires { ⌜ (length (now right) ≤ length (now used)) × (columns ≤ length (now pivots)) × (bitwidth ≤ 64) ⌝ }
+    requires { ⌜ (length (now right) ≤ length (now used)) × (columns ≤ length (now pivots)) × (bitwidth ≤ 64) × (columns ≤ length (now room)) ⌝ }
     ensures { λ r. ⌜ ((s : State)
         → Shown bitwidth (length (now (right .entry))) columns s column (now (matrix .entry)) (now (right .entry)) (now (used .entry)) (now (pivots .entry))
         → Shown bitwidth (length (now (right .entry))) columns (step bitwidth (length (now (right .entry))) s column) (column + 1)
@@ -111,7 +118,7 @@ fn eliminate_column(
         return;
     }
     used[pivot] = true;
-    clear_column(matrix, right, used, columns, column, pivot, bitwidth);
+    clear_column(matrix, right, used, room, columns, column, pivot, bitwidth);
 }
 
 // All columns, one after the other.
@@ -120,11 +127,12 @@ pub(crate) fn eliminate(
     right: &mut [u64],
     used: &mut [bool],
     pivots: &mut [usize],
+    room: &mut [u64],
     columns: usize,
     bitwidth: u32,
 )
     requires { ⌜ (length (now matrix) ≡ length (now right) * columns) × (length (now matrix) ≤ 65536) × (columns ≤ 65536) ⌝ }
-    requires { ⌜ (length (now right) ≤ length (now used)) × (columns ≤ length (now pivots)) × (bitwidth ≤ 64) ⌝ }
+    requires { ⌜ (length (now right) ≤ length (now used)) × (columns ≤ length (now pivots)) × (bitwidth ≤ 64) × (columns ≤ length (now room)) ⌝ }
     ensures { λ r. ⌜ ((s : State)
         → Shown bitwidth (length (now (right .entry))) columns s 0 (now (matrix .entry)) (now (right .entry)) (now (used .entry)) (now (pivots .entry))
         → Shown bitwidth (length (now (right .entry))) columns (forward bitwidth (length (now (right .entry))) s columns) columns
@@ -132,7 +140,7 @@ pub(crate) fn eliminate(
 {
     let mut column = 0;
     while column < columns {
-        eliminate_column(matrix, right, used, pivots, columns, column, bitwidth);
+        eliminate_column(matrix, right, used, pivots, room, columns, column, bitwidth);
         column += 1;
     }
 }

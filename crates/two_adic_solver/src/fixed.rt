@@ -6,6 +6,7 @@ ghost use lib.ListN.{length, getD};
 ghost use Rattle.meaning.specs.Elimination.{State, joined, eliminated, system, fixedNumber, fixedAnswer};
 ghost use Rattle.two_adic_solver.specs.Fixed.{Square};
 ghost use Rattle.two_adic_solver.specs.Shown.{Shown};
+ghost use Rattle.two_adic_solver.specs.Solves.{Solves};
 ghost use Rattle.two_adic_solver.specs.Solved.{Ended, Concluded, Finished};
 ghost use Rattle.answers.specs.Said.{saidNumber};
 use crate::fixed_elimination;
@@ -86,9 +87,8 @@ fn solve_with(
     Outcome::Refused(Refusal::NoAnswer)
 }
 
-// Solves four equations in four unknowns modulo 2^bitwidth, as the bare solver does for the rows one behind the other and four columns: the same
-// number, 3 where the width is not 2 to 64 and 10 where the elimination finds no answer, and the same answer, zero beside a refusal.
-pub fn solve_2adic_fixed(matrix: [[u64; 4]; 4], right: [u64; 4], bitwidth: u32) -> Fixed
+// The test of the width, and the system where it passes.
+fn solve_checked(matrix: [[u64; 4]; 4], right: [u64; 4], bitwidth: u32) -> Fixed
     ensures { λ r. ⌜ (saidNumber (r .outcome) ≡ fixedNumber bitwidth matrix right) × (r .answer ≡ fixedAnswer bitwidth matrix right) ⌝ }
 {
     let mut answer = [0; 4];
@@ -120,4 +120,14 @@ pub fn solve_2adic_fixed(matrix: [[u64; 4]; 4], right: [u64; 4], bitwidth: u32) 
         outcome: outcome,
         answer: answer,
     }
+}
+
+// Solves four equations in four unknowns modulo 2^bitwidth, as the bare solver does for the rows one behind the other and four columns: the same
+// number, 3 where the width is not 2 to 64 and 10 where the elimination finds no answer, and the same answer, zero beside a refusal.
+pub fn solve_2adic_fixed(matrix: [[u64; 4]; 4], right: [u64; 4], bitwidth: u32) -> Fixed
+    ensures says { λ r. ⌜ saidNumber (r .outcome) ≡ fixedNumber bitwidth matrix right ⌝ }
+    ensures answer { λ r. ⌜ r .answer ≡ fixedAnswer bitwidth matrix right ⌝ }
+    ensures solves { λ r. ⌜ (saidNumber (r .outcome) ≡ 0 → Solves bitwidth 4 (joined matrix) right (r .answer)) ⌝ }
+{
+    solve_checked(matrix, right, bitwidth)
 }

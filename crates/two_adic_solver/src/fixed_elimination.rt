@@ -52,8 +52,8 @@ fn subtract_row(
     bitwidth: u32,
 )
     requires { ⌜ Square (now matrix) × (source < 4) × (target < 4) × (column < 4) × (bitwidth ≤ 64) ⌝ }
-    ensures { λ r. ⌜ Square (now (matrix .exit)) × Subtracted (2 ^ bitwidth) q (source * 4 + column) (target * 4 + column) (4 - column)
-        (joined (now (matrix .entry))) (joined (now (matrix .exit))) ⌝ }
+    ensures { λ r. ⌜ Square (now (matrix .exit)) × Subtracted (2 ^ bitwidth) q (target * 4 + column) (4 - column)
+        (λ k. at (joined (now (matrix .entry))) (source * 4 + column + k)) (joined (now (matrix .entry))) (joined (now (matrix .exit))) ⌝ }
 {
     let mut k = column;
     while k < 4 {

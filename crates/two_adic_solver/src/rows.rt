@@ -9,7 +9,7 @@ ghost use Rattle.meaning.specs.Factorials.{twosIn};
 ghost use Rattle.meaning.specs.Inverses.{inverse};
 ghost use Rattle.meaning.specs.Differences.{minus};
 ghost use Rattle.meaning.specs.Elimination.{lowest};
-ghost use Rattle.two_adic_solver.specs.Rows.{Subtracted, heightOf};
+ghost use Rattle.two_adic_solver.specs.Rows.{Spanned, heightOf};
 use answers::Number;
 
 // Every number modulo 2^bitwidth.
@@ -46,7 +46,8 @@ pub(crate) fn lower_height(here: u32, least: u32) -> u32
     if here < least { here } else { least }
 }
 
-// The row of a column's pivot: the least twos among the unused rows whose entry is not 0, the first on a tie; `rows` where there is none.
+// The row of a column's pivot: the least twos among the unused rows whose entry is not 0, the first on a tie; `rows` where there is none. It ends at the
+// first odd entry, which no other is below.
 pub(crate) fn find_pivot(
     matrix: &[u64],
     used: &[bool],
@@ -64,11 +65,19 @@ pub(crate) fn find_pivot(
     let mut at = column;
     let mut i = 0;
     while i < rows {
-        let here = height(matrix[at], used[i], bitwidth);
-        row = lower_row(here, least, i, row);
-        least = lower_height(here, least);
-        at += columns;
-        i += 1;
+        if used[i] {
+            at += columns;
+            i += 1;
+        } else {
+            let here = height(matrix[at], false, bitwidth);
+            row = lower_row(here, least, i, row);
+            least = lower_height(here, least);
+            if least == 0 {
+                return row;
+            }
+            at += columns;
+            i += 1;
+        }
     }
     row
 }
@@ -122,57 +131,26 @@ pub(crate) fn span(list: &[u64]) -> usize
     0
 }
 
-// One row of a part less q times another: `count` numbers from `target` on, and as many from `source` on.
-fn subtract_within(
-    part: &mut [u64],
-    source: usize,
-    target: usize,
-    count: usize,
-    q: u64,
-    bitwidth: u32,
-)
-    requires { ⌜ (source + count ≤ length (now part)) × (target + count ≤ length (now part)) × (source < target → source + count ≤ target) ⌝ }
-    requires { ⌜ (bitwidth ≤ 64) ⌝ }
-    ensures { λ r. ⌜ Subtracted (2 ^ bitwidth) q source target count (now (part .entry)) (now (part .exit)) ⌝ }
+// Copies the numbers from `place` to `end`, up to the last that is not 0, to the start of `room`. The result is how many they are.
+pub(crate) fn copy_span(matrix: &[u64], place: usize, end: usize, room: &mut [u64]) -> usize
+    requires { ⌜ (place ≤ end) × (end ≤ length (now matrix)) × (end - place ≤ length (now room)) ⌝ }
+    ensures { λ r. ⌜ Spanned place end (now (matrix .entry)) (now (room .exit)) r ⌝ }
+{
+    let count = span(&matrix[place..end]);
+    tables::copy(&matrix[place..place + count], &mut room[..count]);
+    count
+}
+
+// A row's part less q times the pivot row's, modulo 2^bitwidth.
+pub(crate) fn subtract_row(row: &mut [u64], pivot: &[u64], q: u64, bitwidth: u32)
+    requires { ⌜ (length (now row) ≤ length (now pivot)) × (bitwidth ≤ 64) ⌝ }
+    ensures { λ r. ⌜ now (row .exit) ≡ tabulate (length (now (row .entry)))
+        (λ k. minus (2 ^ bitwidth) (at (now (row .entry)) k) (q * at (now (pivot .entry)) k)) ⌝ }
 {
     let mask = arith::bitmask(bitwidth);
     let mut k = 0;
-    while k < count {
-        part[target + k] = less_multiple(part[target + k], q, part[source + k], mask, bitwidth);
+    while k < row.len() {
+        row[k] = less_multiple(row[k], q, pivot[k], mask, bitwidth);
         k += 1;
     }
-}
-
-// The same in a whole matrix: the part that spans both rows is lent on.
-pub(crate) fn subtract_row(
-    matrix: &mut [u64],
-    source: usize,
-    target: usize,
-    count: usize,
-    q: u64,
-    bitwidth: u32,
-)
-    requires { ⌜ (source + count ≤ length (now matrix)) × (target + count ≤ length (now matrix)) × (source < target → source + count ≤ target) ⌝ }
-    requires { ⌜ (bitwidth ≤ 64) ⌝ }
-    ensures { λ r. ⌜ Subtracted (2 ^ bitwidth) q source target count (now (matrix .entry)) (now (matrix .exit)) ⌝ }
-{
-    if source < target {
-        subtract_within(
-            &mut matrix[source..target + count],
-            0,
-            target - source,
-            count,
-            q,
-            bitwidth,
-        );
-        return;
-    }
-    subtract_within(
-        &mut matrix[target..source + count],
-        source - target,
-        0,
-        count,
-        q,
-        bitwidth,
-    );
 }

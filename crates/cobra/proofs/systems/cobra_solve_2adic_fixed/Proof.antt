@@ -1,7 +1,7 @@
 -- Five refusals in the order of the tests, each by a law of its own: the width below and above its range, then the three lengths.
 -- Past them the solver's answer has four entries, as the lent one has, so that it is copied (`four-solved`).
 use borrow.Author.Needs.{needs}
-use mathlib.Core.Path.{ap₂, _∙_}
+use mathlib.Core.Path.{sym, ap₂, _∙_}
 use mathlib.Core.Bool.{_&&_}
 use borrow.Author.Tests.{eq-eqb, ne-eqb}
 use Rattle.theory.specs.Ranges.{between-true, between-low, between-high}
@@ -32,4 +32,5 @@ cobra-solve-2adic-fixed-spec =
     four-solved _ _ _ _
     (between-true 2 64 _ (e .before .before .before .before .if1 .left) (e .before .before .before .if2 .left))
     (ap₂ _&&_ (eq-eqb _ _ (e .before .before .if3 .left)) (ap₂ _&&_ (eq-eqb _ _ (e .before .if4 .left)) (eq-eqb _ _ (e .if5 .left))))
-    (e .if5 .left) _ _ _ (c .outcome-code .ensures ∙ k .0) (k .1) (c .before .before .before .copy .ensures)))
+    (e .before .if4 .left) (e .if5 .left) _ _ _ (c .outcome-code .ensures ∙ k .0) (k .1 .0) (λ z. k .1 .1 (sym (c .outcome-code .ensures) ∙ z))
+    (c .before .before .before .copy .ensures)))

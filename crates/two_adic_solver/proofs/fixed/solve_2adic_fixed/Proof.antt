@@ -1,29 +1,12 @@
--- A bad width is the bare solver's 3 (`fixed-width`). Else the arrays are four by four, and what `solve_with` ends in is the bare solver's answer.
-use Rattle.two_adic_solver.proofs.fixed.solve_2adic_fixed.Statement.{statement}
-use mathlib.Core.Path.{refl}
-use Rattle.theory.specs.Ranges.{between-low, between-high}
-use Rattle.two_adic_solver.proofs.SolverLaws.{unmarked}
-use Rattle.two_adic_solver.proofs.FixedCalls.{square-good, length-good, fixed-width, fixed-solved}
+-- Both equations are `solve_checked`'s; from them an accepted answer solves the system (`fixed-solves`).
 use borrow.Author.Needs.{needs}
+use Rattle.two_adic_solver.proofs.SolvesLaws.{fixed-solves}
+use Rattle.two_adic_solver.proofs.fixed.solve_2adic_fixed.Statement.{statement}
 use Rattle.two_adic_solver.proofs.fixed.solve_2adic_fixed.Tie as tie
 
 pub solve-2adic-fixed-spec : {M : Type 1} → statement M
 solve-2adic-fixed-spec =
     tie.close
     (tie.spec
-    (λ c. fixed-width _ _ _ (between-low 2 64 _ (c .if1 .taken)))
-    (λ c. fixed-width _ _ _ (between-high 2 64 _ (c .if2 .taken)))
-    (λ c. search needs) (λ c. search needs) (λ c. search needs) (λ c. search needs)
-    (λ c κs.
-    let s = c .before .before .before .before .before .before .before in
-    let g = s .good in (
-      (square-good _ _ (g .0), length-good (s .args .right) _ (g .1 .0), refl, refl, refl),
-      (c .before .before .before .before .before .if2 .left, λ i l. unmarked 4 i),
-    ))
-    (λ c.
-    let s = c .before .before .before .before .before .before .before .before .before .before .before .before in
-    let g = s .good in
-    fixed-solved _ (s .args .matrix) (s .args .right) (square-good _ _ (g .0)) (length-good (s .args .right) _ (g .1 .0))
-    (c .before .before .before .before .before .before .before .before .before .before .before .if1 .left)
-    (c .before .before .before .before .before .before .before .before .before .before .if2 .left) _ _ _ _
-    (c .before .before .before .before .solve-with .ensures)))
+    (λ c κs. search needs)
+    (λ c. let e = c .solve-checked .ensures in (e .0, (e .1, fixed-solves _ _ _ _ _ (e .0) (e .1)))))

@@ -1,14 +1,13 @@
--- The loop: the matrix is four by four, and its first `row` rows are as after the column's step. No column lies past those that are subtracted.
+-- The loop: the matrix is four by four, and its first `row` rows are as after the column's step.
 use Rattle.two_adic_solver.proofs.fixed_elimination.clear_column.Statement.{statement}
 use mathlib.Core.Path.{sym, _∙_}
 use Prim.Native.Nat.{_-_, _<_, _≤_}
-use native.Mathlib.Nat.{lt-irrefl}
 use native.Mathlib.Omega.{arith}
 use lib.ListN.{length}
 use Rattle.meaning.specs.Elimination.{joined}
 use Rattle.theory.specs.Trailing.{twosIn-left-odd}
 use Rattle.two_adic_solver.specs.Fixed.{Square}
-use Rattle.two_adic_solver.proofs.ClearLaws.{Cleared, cleared-start, cleared-step, cleared-done}
+use Rattle.two_adic_solver.proofs.ClearedLaws.{Cleared, cleared-start, cleared-step, cleared-done}
 use Rattle.two_adic_solver.proofs.FixedLaws.{joined-length, joined-entry, low-entry}
 use borrow.Author.Needs.{needs}
 use Rattle.two_adic_solver.proofs.fixed_elimination.clear_column.Tie as tie
@@ -59,14 +58,14 @@ clear-column-spec =
     (arith, i .1 .same-right, p .0 .1, c .before .before .before .before .before .before .loop-test .taken) in (
       k .ensures .0,
       cleared-step _ _ _ _ _ _ _ lp (p .0 .3) _ (c .before .before .before .before .before .before .before .before .before .height .result)
-          (c .before .before .before .before .before .before .before .before .pivot-inverse .result) (4 - s .args .column)
+          (c .before .before .before .before .before .before .before .before .pivot-inverse .result)
           (sym (joined-entry (p .0 .0) (s .args .pivot) (s .args .column) (p .0 .4) (p .0 .3)))
           (c .before .before .before .before .before .before .before .before .before .height .ensures)
           (c .before .before .before .before .before .before .before .before .pivot-inverse .ensures)
-          (λ j l m. absurd (lt-irrefl j (omega (arith, l, m)))) (joined (b .loop .matrix)) (b .loop .right)
+          (joined (b .loop .matrix)) (b .loop .right)
           (joined (k .last .0)) (k .last .1 .0)
           (b .loop .row) (i .1) lr (joined-length (k .ensures .0) ∙ sym (joined-length (i .0))) (omega arith)
-          (λ u h e small zeros far. k .ensures .1 u h e small zeros),
+          (λ u h e small zeros row right. k .ensures .1 u h e small zeros),
     ))
     (λ c. c .before .loop .inv .1 .same-right)
     (λ c.

@@ -5,7 +5,7 @@ use Prim.Native.Nat.{_-_, _<_}
 use native.Mathlib.Nat.{lt-irrefl}
 use native.Mathlib.Omega.{arith}
 use lib.ListN.{length}
-use Rattle.two_adic_solver.proofs.ClearLaws.{row-used, row-zero, row-subtracted, quotient-told}
+use Rattle.two_adic_solver.proofs.ClearLaws.{shown-from, row-used, row-zero, row-subtracted, quotient-told}
 use Rattle.two_adic_solver.proofs.FixedLaws.{joined-entry}
 use borrow.Author.Needs.{needs}
 use Rattle.two_adic_solver.proofs.fixed_elimination.clear_row.Tie as tie
@@ -44,7 +44,8 @@ clear-row-spec =
       λ st h ev small zeros.
           row-subtracted _ _ _ _ _ st _ _ _ _ h (a .used)
           (c .before .before .before .before .before .before .before .before .if1 .left) small (4 - a .column) zeros
-          (λ j l m. absurd (lt-irrefl j (omega (arith, l, m)))) lp li (omega (arith, p .0 .2)) (q .result)
+          (λ j l m. absurd (lt-irrefl j (omega (arith, l, m)))) _ (shown-from _ _ st _ _ h (a .pivot) (a .column) lp) _
+          (h .rights (a .pivot) lp) li (omega (arith, p .0 .2)) (q .result)
           (quotient-told _ _ (st .entry (a .pivot) (a .column)) _ _ (a .v) _ (q .ensures)
           (sym (joined-entry (p .0 .0) (a .row) (a .column) (p .0 .4) (p .0 .2)) ∙ h .entries (a .row) (a .column) li (p .0 .2)) ev)
           _ (k .ensures .1) _ (c .less .ensures),

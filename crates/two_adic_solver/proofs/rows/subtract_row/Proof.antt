@@ -1,19 +1,47 @@
--- The lent part goes from the start of the row in front to the end of the other; `subtracted-part` takes the promise to the whole matrix in both orders.
+-- The loop: the numbers before k are less q times the pivot row's, the others as they were; the measure is what is left.
 use borrow.Author.Needs.{needs}
+use mathlib.Core.Path.{ap, _∙_}
+use native.Mathlib.Nat.{le-refl}
 use native.Mathlib.Omega.{arith}
-use Prim.Native.Nat.{_+_, _-_, _≤_, _<_}
-use lib.ListN.{length-take, length-drop}
-use Rattle.two_adic_solver.proofs.RowLaws.{subtracted-part}
+use Prim.Native.Nat.{ℕ, _*_, _-_, _^_}
+use lib.ListN.{length, length-set}
+use Rattle.meaning.specs.Tables.{at}
+use Rattle.meaning.specs.Differences.{minus}
+use Rattle.theory.specs.Tables.{Filled, filled-start, filled-step, filled-done}
+use Rattle.two_adic_solver.proofs.RowLaws.{mask-eq}
 use Rattle.two_adic_solver.proofs.rows.subtract_row.Statement.{statement}
 use Rattle.two_adic_solver.proofs.rows.subtract_row.Tie as tie
+
+abbrev Inv-loop : tie.InvT-loop
+Inv-loop row₀ pivot q bitwidth mask k₀ row k = Filled (λ k. minus (2 ^ bitwidth) (at row₀ k) (q * at pivot k)) row₀ row k
+
+abbrev μ-loop : tie.MeasureT-loop
+μ-loop row₀ pivot q bitwidth mask k₀ row k = length row - k
 
 pub subtract-row-spec : {M : Type 1} → statement M
 subtract-row-spec =
     tie.close
     (tie.spec
-    (λ c. search needs) (λ c. search needs) (λ c. search needs) (λ c. search needs) (λ c. search needs) (λ c. search needs)
-    (λ c κs. let s = c .before .before .before in let apart : s .args .source + s .args .count ≤ s .args .target = s .pre .0 .2 (c .before .if1 .taken) in ((simp (length-take, length-drop) (omega (arith, s .pre .0 .1)), simp (length-take, length-drop) (omega (arith, s .pre .0 .1)), λ h. omega arith), s .pre .1))
-    (λ c. search needs)
-    (λ c. let s = c .before .before .before .before .before .before in let a = s .args in let p = s .pre in let l : a .source < a .target = c .before .before .before .before .if1 .taken in let apart : a .source + a .count ≤ a .target = p .0 .2 l in subtracted-part _ _ (a .source) (a .target) (a .count) (a .source) (a .target + a .count) 0 (a .target - a .source) (a .matrix .now) (c .before .before .subtract-within .last .0) (c .before .before .subtract-within .ensures) (omega arith) (omega arith) (omega arith) (omega arith) (p .0 .1) (omega arith))
-    (λ c. search needs) (λ c. search needs) (λ c. search needs) (λ c. search needs) (λ c. search needs) (λ c κs. search needs) (λ c. search needs)
-    (λ c. let s = c .before .before .before .before .before .before in let a = s .args in let p = s .pre in let l : a .target ≤ a .source = c .before .before .before .before .if1 .left in subtracted-part _ _ (a .source) (a .target) (a .count) (a .target) (a .source + a .count) (a .source - a .target) 0 (a .matrix .now) (c .before .before .subtract-within2 .last .0) (c .before .before .subtract-within2 .ensures) (omega arith) (omega arith) (omega arith) (omega arith) (p .0 .0) (omega arith)))
+    Inv-loop
+    μ-loop
+    (λ c κs. search needs)
+    (λ c. filled-start _ _)
+    (λ c. search needs) (λ c. search needs) (λ c. search needs)
+    (λ c.
+    let b = c .before .before .before in
+    let s = b .before .before .before .before in
+    omega (arith, b .loop .inv .same, s .pre .0, c .before .before .loop-test .taken))
+    (λ c κs.
+    let m = c .before .before .before .before in
+    let s = m .before .before .before in
+    (s .pre .1, mask-eq _ _ (s .pre .1) (m .bitmask .ensures)))
+    (λ c. search needs) (λ c. search needs) (λ c. search needs)
+    (λ c. simp length-set (omega arith))
+    (λ c.
+    let b = c .before .before .before .before in
+    let a = b .before .before .before .before .args in
+    filled-step _ _ (b .loop .row) (b .loop .k) _ (b .loop .inv) (c .before .before .before .loop-test .taken)
+    (c .less-multiple .ensures
+    ∙ ap (λ (x : ℕ). minus (2 ^ a .bitwidth) x (a .q * at (a .pivot .now) (b .loop .k))) (b .loop .inv .above (b .loop .k) (le-refl _))))
+    (λ c. c .before .loop .inv .same)
+    (λ c. filled-done _ _ (c .before .loop .row) (c .before .loop .k) (c .before .loop .inv) (omega (arith, c .before .loop .inv .same, c .loop-test .left))))

@@ -9,11 +9,37 @@ use Rattle.two_adic_solver.proofs.SolverLaws.{eliminated-told}
 use Rattle.two_adic_solver.proofs.solver.eliminate_tables.Statement.{statement}
 use Rattle.two_adic_solver.proofs.solver.eliminate_tables.Tie as tie
 
+-- the right side reduced, the matrix reduced, and the start, before `eliminate` is called
+abbrev right-reduced : tie.After-eliminate-arg5 → tie.After-reduce2
+right-reduced c = c .before .before .before .before .before .before .before
+
+abbrev matrix-reduced : tie.After-reduce2 → tie.After-reduce
+matrix-reduced c = c .before .before .before .before
+
+abbrev started : tie.After-reduce → tie.Start
+started c = c .before .before .before .before .before .before .before
+
 pub eliminate-tables-spec : {M : Type 1} → statement M
 eliminate-tables-spec =
     tie.close
     (tie.spec
     (λ c κs. search needs) (λ c κs. search needs)
-    (λ c κs. let s = c .before .before .before .before .before .before .before .before .before .before .before .before .before .before .before .before in let lm : length (c .before .before .before .before .before .before .before .before .before .before .reduce .last .0) ≡ length (s .args .matrix .now) = ap length (c .before .before .before .before .before .before .before .before .before .before .reduce .ensures) ∙ length-tabulate _ _ in let lr : length (c .before .before .before .before .before .before .reduce2 .last .0) ≡ length (s .args .right .now) = ap length (c .before .before .before .before .before .before .reduce2 .ensures) ∙ length-tabulate _ _ in ((lm ∙ s .pre .0 .0 ∙ ap (_* s .args .columns) (sym lr), omega (arith, lm, s .pre .0 .1), s .pre .0 .2), (omega (arith, lr, s .pre .1 .0), s .pre .1 .1, s .pre .1 .2)))
-    (λ c. search needs) (λ c. search needs) (λ c. search needs) (λ c. search needs)
-    (λ c. let s = c .before .before .before .before .before .before .before .before .before .before .before .before .before .before .before .before .before .before .before .before .before .before .before .before .before in let a = s .args in let k = c .before .before .before .before .before .before .before .before .eliminate in λ free. eliminated-told _ _ (a .matrix .now) (a .right .now) (c .before .before .before .before .before .before .before .before .before .before .before .before .before .before .before .before .before .before .before .reduce .last .0) (c .before .before .before .before .before .before .before .before .before .before .before .before .before .before .before .reduce2 .last .0) (a .used .now) (a .pivots .now) _ _ _ _ (s .pre .0 .0) (c .before .before .before .before .before .before .before .before .before .before .before .before .before .before .before .before .before .before .before .reduce .ensures) (c .before .before .before .before .before .before .before .before .before .before .before .before .before .before .before .reduce2 .ensures) (k .ensures) free))
+    (λ c κs.
+    let r = right-reduced c in
+    let m = matrix-reduced r in
+    let s = started m in
+    let lm : length (m .reduce .last .0) ≡ length (s .args .matrix .now) = ap length (m .reduce .ensures) ∙ length-tabulate _ _ in
+    let lr : length (r .reduce2 .last .0) ≡ length (s .args .right .now) = ap length (r .reduce2 .ensures) ∙ length-tabulate _ _ in (
+      (lm ∙ s .pre .0 .0 ∙ ap (_* s .args .columns) (sym lr), omega (arith, lm, s .pre .0 .1), s .pre .0 .2),
+      (omega (arith, lr, s .pre .1 .0), s .pre .1 .1, s .pre .1 .2, s .pre .1 .3),
+    ))
+    (λ c. search needs) (λ c. search needs) (λ c. search needs) (λ c. search needs) (λ c. search needs)
+    (λ c.
+    let k = c .before .before .before .before .before .before .before .before .before .before in
+    let r = right-reduced (k .before) in
+    let m = matrix-reduced r in
+    let s = started m in
+    let a = s .args in
+    λ free.
+    eliminated-told _ _ (a .matrix .now) (a .right .now) (m .reduce .last .0) (r .reduce2 .last .0) (a .used .now) (a .pivots .now) _ _ _ _ (s .pre .0 .0)
+    (m .reduce .ensures) (r .reduce2 .ensures) (k .eliminate .ensures) free))

@@ -25,4 +25,4 @@ solve-spec =
     let a = s .args in
     let k = c .before .before .before .before .before .before .before .before .solve-2adic in
     concluded-accepted (a .bitwidth) (a .matrix .now) (a .right .now) (a .values .now) (s .pre)
-    (sym (ap saidNumber (c .enum-told2 .given .1)) ∙ k .ensures .0) _ (k .ensures .3)))
+    (sym (ap saidNumber (c .enum-told2 .given .1)) ∙ k .ensures .0) _ (k .ensures .1 .1 .1 .0)))
