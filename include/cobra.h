@@ -44,10 +44,13 @@
  *   COBRA_REPEATED_INDEX       a variable number stands twice
  *   COBRA_TOO_LARGE            a table would have more than 4,096 entries
  *   COBRA_WRONG_LENGTH         another table's bytes are not eight times its entries
- *   COBRA_NOT_DIVISIBLE        recovery: no polynomial with whole-number coefficients fits
+ *   COBRA_NOT_DIVISIBLE        recovery: no polynomial with whole-number coefficients, of
+ *                              whatever degree, has these values
  *   COBRA_NO_ANSWER            fit: the elimination found no answer; there may be one
  *
  * Every input is allowed: whatever the numbers and bytes are, the call returns with its answer.
+ * A degree is 0 to 255. C converts a larger number to uint8_t by cutting it to its low eight
+ * bits, before the call sees it: the caller has to look at it first.
  * Tables that a call reads are never altered. Memory outside the tables is never touched.
  *
  * STACK AND THREADS
@@ -100,9 +103,15 @@ extern "C" {
  * out      a coefficient for each cell: (degree+1)^k entries
  *
  * COBRA_OK: out has the coefficients of the only polynomial function within the box that agrees
- * with the values at every grid point, each below 2^(width - q).
- * COBRA_NOT_DIVISIBLE: no polynomial with whole-number coefficients and no exponent above degree
- * agrees with the values; every byte of out is 0.
+ * with the values at every grid point, each below 2^(width - q). At every point, on the grid or
+ * off, it has the value of every polynomial with no exponent above degree that agrees. A formula
+ * of a higher degree can have the same values and differ elsewhere, unless degree is at least 9
+ * at width 8, 17 at 16, 33 at 32, 65 at 64: then it has the value of every polynomial, of
+ * whatever degree, that has these values.
+ * COBRA_NOT_DIVISIBLE: no polynomial with whole-number coefficients, of whatever degree, has
+ * these values; every byte of out is 0. A reading is wrong, a variable is missing from the
+ * support, the width is higher than the one at which the formula wraps, or the formula is no
+ * polynomial. A larger grid with these values is refused too.
  * Any other number: out is as it was.
  */
 uint32_t cobra_recover(const uint8_t *values, size_t values_bytes,

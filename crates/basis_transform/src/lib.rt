@@ -58,7 +58,8 @@ pub fn to_factorial_basis(
     ensures leaves { λ r. ⌜ now (out .exit) ≡ convertLeft total bitwidth (now (support .entry)) (cube (now (support .entry)) «max_degree»)
         (now (coeffs .entry)) (now (out .entry))
         (fallingBox (2 ^ bitwidth) (cube (now (support .entry)) «max_degree») (now (coeffs .entry))) ⌝ }
-    ensures converts { λ r. ⌜ ToFalling (ConvertPasses total bitwidth (now (support .entry)) (cube (now (support .entry)) «max_degree») (now (coeffs .entry)) (now (out .entry)))
+    ensures converts { λ r. ⌜ ToFalling (ConvertPasses total bitwidth (now (support .entry)) (cube (now (support .entry)) «max_degree»)
+        (now (coeffs .entry)) (now (out .entry)))
         bitwidth (cube (now (support .entry)) «max_degree») (now (coeffs .entry)) (saidNumber r) (now (out .exit)) ⌝ }
 {
     transform_basis(
@@ -86,7 +87,8 @@ pub fn to_monomial_basis(
     ensures leaves { λ r. ⌜ now (out .exit) ≡ convertLeft total bitwidth (now (support .entry)) (cube (now (support .entry)) «max_degree»)
         (now (coeffs .entry)) (now (out .entry))
         (powerBox (2 ^ bitwidth) (cube (now (support .entry)) «max_degree») (now (coeffs .entry))) ⌝ }
-    ensures converts { λ r. ⌜ ToPowers (ConvertPasses total bitwidth (now (support .entry)) (cube (now (support .entry)) «max_degree») (now (coeffs .entry)) (now (out .entry)))
+    ensures converts { λ r. ⌜ ToPowers (ConvertPasses total bitwidth (now (support .entry)) (cube (now (support .entry)) «max_degree»)
+        (now (coeffs .entry)) (now (out .entry)))
         bitwidth (cube (now (support .entry)) «max_degree») (now (coeffs .entry)) (saidNumber r) (now (out .exit)) ⌝ }
 {
     transform_basis(

@@ -31,10 +31,12 @@ fn recover_in(
     found: &mut [u64],
     out: &mut [u8],
 ) -> Outcome
-    requires { ⌜ (length (now support) ≡ length (now indices) * 8) × (length (now values) ≡ length (now given) * 8) × (length (now out) ≡ length (now found) * 8) ⌝ }
+    requires { ⌜ (length (now support) ≡ length (now indices) * 8) × (length (now values) ≡ length (now given) * 8) × (length
+        (now out) ≡ length (now found) * 8) ⌝ }
     ensures says { λ r. ⌜ saidNumber r ≡ recoveryNumber total width (decoded (now (support .entry))) (cube (decoded (now (support .entry))) degree)
         (decoded (now (values .entry))) (now (found .entry)) ⌝ }
-    ensures leaves { λ r. ⌜ now (out .exit) ≡ encoded (recoveryLeft total width (decoded (now (support .entry))) (cube (decoded (now (support .entry))) degree)
+    ensures leaves { λ r. ⌜ now (out .exit) ≡ encoded (recoveryLeft total width (decoded (now (support .entry))) (cube (decoded
+        (now (support .entry))) degree)
         (decoded (now (values .entry))) (now (found .entry))) ⌝ }
 {
     codec::decode(support, indices);
@@ -53,8 +55,8 @@ fn recover_in(
 
 // Recovers the coefficients of the falling factorials from the values on the grid {0, .., degree} over the support variables, modulo 2^width. `support` has
 // `count` indices, `values` a value for each grid point and `out` gets a coefficient for each exponent list, first support variable fastest. Refused in the
-// order 9 (the support's bytes), 1, 2, 3, 4, 5, 7, 8 (more than 4,096 cells), 9 (the other tables' bytes), when `out` is as it was, and then for 6, when all
-// bytes of `out` are 0. `values` and `support` are not altered.
+// order 9 (the support's bytes), 1, 2, 3, 4, 5, 7, 8 (more than 4,096 cells), 9 (the other tables' bytes), when `out` is as it was, and then for 6, where no
+// polynomial of any degree has the values; all bytes of `out` are then 0. `values` and `support` are not altered.
 pub fn recover(
     values: &[u8],
     support: &[u8],
@@ -68,7 +70,8 @@ pub fn recover(
         (now (values .entry)) (now (out .entry)) ⌝ }
     ensures leaves { λ r. ⌜ now (out .exit) ≡ recoverLeft count total width (now (support .entry)) (cube (decoded (now (support .entry))) degree)
         (now (values .entry)) (now (out .entry)) ⌝ }
-    ensures decides { λ r. ⌜ Decides (RecoverHolds count total width (now (support .entry)) (cube (decoded (now (support .entry))) degree) (now (values .entry)) (now (out .entry)))
+    ensures decides { λ r. ⌜ Decides (RecoverHolds count total width (now (support .entry)) (cube (decoded (now (support .entry))) degree)
+        (now (values .entry)) (now (out .entry)))
         width (cube (decoded (now (support .entry))) degree) (decoded (now (values .entry))) (saidNumber r) (decoded (now (out .exit))) ⌝ }
 {
     match checks::check(true, support, count, total, width, degree) {
@@ -112,7 +115,8 @@ fn value_in(
     given: &mut [u64],
     coordinates: &mut [u64],
 ) -> Number
-    requires { ⌜ (length (now support) ≡ length (now indices) * 8) × (length (now coeffs) ≡ length (now given) * 8) × (length (now point) ≡ length (now coordinates) * 8) ⌝ }
+    requires { ⌜ (length (now support) ≡ length (now indices) * 8) × (length (now coeffs) ≡ length (now given) * 8) × (length
+        (now point) ≡ length (now coordinates) * 8) ⌝ }
     ensures { λ r. ⌜ said r ≡ valueReply total width (decoded (now (support .entry))) (cube (decoded (now (support .entry))) degree)
         (decoded (now (coeffs .entry))) (decoded (now (point .entry))) ⌝ }
 {
@@ -136,7 +140,8 @@ pub fn value(
 ) -> Number
     ensures says { λ r. ⌜ said r ≡ bytesValueReply count total width (now (support .entry)) (cube (decoded (now (support .entry))) degree)
         (now (coeffs .entry)) (now (point .entry)) ⌝ }
-    ensures values { λ r. ⌜ Valued (ValueHolds count total width (now (support .entry)) (cube (decoded (now (support .entry))) degree) (now (coeffs .entry)) (now (point .entry)))
+    ensures values { λ r. ⌜ Valued (ValueHolds count total width (now (support .entry)) (cube (decoded (now (support .entry))) degree)
+        (now (coeffs .entry)) (now (point .entry)))
         width (cube (decoded (now (support .entry))) degree) (decoded (now (coeffs .entry))) (decoded (now (point .entry))) (said r) ⌝ }
 {
     match checks::check(false, support, count, total, width, degree) {

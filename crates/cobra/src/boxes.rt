@@ -22,7 +22,8 @@ pub extern "C" fn cobra_box_is_valid(
     degree: u8,
     value: &mut u64,
 ) -> u32
-    ensures says { λ r. ⌜ told r (now (value .exit)) ≡ validReply total width (now (support .entry)) (cube (now (support .entry)) degree) (now (coeffs .entry)) ⌝ }
+    ensures says { λ r. ⌜ told r (now (value .exit)) ≡ validReply total width (now (support .entry)) (cube (now (support .entry)) degree)
+        (now (coeffs .entry)) ⌝ }
     ensures judges { λ r. ⌜ Judged (ValidPasses total (now (support .entry)) (cube (now (support .entry)) degree) (now (coeffs .entry)))
         width (cube (now (support .entry)) degree) (now (coeffs .entry)) (told r (now (value .exit))) ⌝ }
 {
@@ -77,7 +78,8 @@ pub extern "C" fn cobra_box_value(
 ) -> u32
     ensures says { λ r. ⌜ told r (now (value .exit)) ≡ valueReply total width (now (support .entry)) (cube (now (support .entry)) degree)
         (now (coeffs .entry)) (now (point .entry)) ⌝ }
-    ensures values { λ r. ⌜ Valued (ValuePasses total width (now (support .entry)) (cube (now (support .entry)) degree) (now (coeffs .entry)) (now (point .entry)))
+    ensures values { λ r. ⌜ Valued (ValuePasses total width (now (support .entry)) (cube (now (support .entry)) degree) (now (coeffs .entry))
+        (now (point .entry)))
         width (cube (now (support .entry)) degree) (now (coeffs .entry)) (now (point .entry)) (told r (now (value .exit))) ⌝ }
 {
     answers::deliver(
@@ -101,7 +103,8 @@ pub extern "C" fn cobra_box_sum(
         (now (out .entry)) ⌝ }
     ensures leaves { λ r. ⌜ now (out .exit) ≡ sumLeft total width (now (support .entry)) (cube (now (support .entry)) degree) (now (a .entry))
         (now (b .entry)) (now (out .entry)) ⌝ }
-    ensures sums { λ r. ⌜ Summed (SumPasses total width (now (support .entry)) (cube (now (support .entry)) degree) (now (a .entry)) (now (b .entry)) (now (out .entry)))
+    ensures sums { λ r. ⌜ Summed (SumPasses total width (now (support .entry)) (cube (now (support .entry)) degree) (now (a .entry))
+        (now (b .entry)) (now (out .entry)))
         width (cube (now (support .entry)) degree) (now (a .entry)) (now (b .entry)) r (now (out .exit)) ⌝ }
 {
     answers::outcome_code(poly::sum(a, b, support, total, width, degree, out))
@@ -122,7 +125,8 @@ pub extern "C" fn cobra_to_factorial_basis(
     ensures leaves { λ r. ⌜ now (out .exit) ≡ convertLeft total width (now (support .entry)) (cube (now (support .entry)) degree)
         (now (coeffs .entry)) (now (out .entry))
         (fallingBox (2 ^ width) (cube (now (support .entry)) degree) (now (coeffs .entry))) ⌝ }
-    ensures converts { λ r. ⌜ ToFalling (ConvertPasses total width (now (support .entry)) (cube (now (support .entry)) degree) (now (coeffs .entry)) (now (out .entry)))
+    ensures converts { λ r. ⌜ ToFalling (ConvertPasses total width (now (support .entry)) (cube (now (support .entry)) degree)
+        (now (coeffs .entry)) (now (out .entry)))
         width (cube (now (support .entry)) degree) (now (coeffs .entry)) r (now (out .exit)) ⌝ }
 {
     answers::outcome_code(basis_transform::to_factorial_basis(
@@ -150,7 +154,8 @@ pub extern "C" fn cobra_to_monomial_basis(
     ensures leaves { λ r. ⌜ now (out .exit) ≡ convertLeft total width (now (support .entry)) (cube (now (support .entry)) degree)
         (now (coeffs .entry)) (now (out .entry))
         (powerBox (2 ^ width) (cube (now (support .entry)) degree) (now (coeffs .entry))) ⌝ }
-    ensures converts { λ r. ⌜ ToPowers (ConvertPasses total width (now (support .entry)) (cube (now (support .entry)) degree) (now (coeffs .entry)) (now (out .entry)))
+    ensures converts { λ r. ⌜ ToPowers (ConvertPasses total width (now (support .entry)) (cube (now (support .entry)) degree)
+        (now (coeffs .entry)) (now (out .entry)))
         width (cube (now (support .entry)) degree) (now (coeffs .entry)) r (now (out .exit)) ⌝ }
 {
     answers::outcome_code(basis_transform::to_monomial_basis(
@@ -178,7 +183,8 @@ pub extern "C" fn cobra_normalize_polynomial(
     ensures leaves { λ r. ⌜ now (out .exit) ≡ convertLeft total width (now (support .entry)) (cube (now (support .entry)) degree)
         (now (coeffs .entry)) (now (out .entry))
         (normalBox width (cube (now (support .entry)) degree) (now (coeffs .entry))) ⌝ }
-    ensures normalises { λ r. ⌜ Normalised (ConvertPasses total width (now (support .entry)) (cube (now (support .entry)) degree) (now (coeffs .entry)) (now (out .entry)))
+    ensures normalises { λ r. ⌜ Normalised (ConvertPasses total width (now (support .entry)) (cube (now (support .entry)) degree)
+        (now (coeffs .entry)) (now (out .entry)))
         width (cube (now (support .entry)) degree) (now (coeffs .entry)) r (now (out .exit)) ⌝ }
 {
     answers::outcome_code(poly_normalizer::normalize_polynomial(
@@ -205,7 +211,8 @@ pub extern "C" fn cobra_recover_multivar_poly(
         (now (out .entry)) ⌝ }
     ensures leaves { λ r. ⌜ now (out .exit) ≡ recoveryLeft total width (now (support .entry)) (cube (now (support .entry)) degree)
         (now (values .entry)) (now (out .entry)) ⌝ }
-    ensures decides { λ r. ⌜ Decides (Passing 65536 total width (now (support .entry)) (cube (now (support .entry)) degree) (now (values .entry)) (now (out .entry)))
+    ensures decides { λ r. ⌜ Decides (Passing 65536 total width (now (support .entry)) (cube (now (support .entry)) degree)
+        (now (values .entry)) (now (out .entry)))
         width (cube (now (support .entry)) degree) (now (values .entry)) r (now (out .exit)) ⌝ }
 {
     answers::outcome_code(multivar_poly_recovery::recover_multivar_poly(

@@ -10,7 +10,7 @@ ghost use Rattle.byte_calls.specs.Bytes.{decoded};
 ghost use Rattle.byte_calls.specs.Calls.{recoverNumber, recoverLeft, bytesValueReply, fitHeld, fitBytesReply, fitBytesLeft};
 ghost use Rattle.byte_calls.specs.Passing.{RecoverHolds, ValueHolds};
 
-// Recovery from the values on a grid.
+// Recovery from the values on a grid; 6 where no polynomial of any degree has them.
 #[no_mangle]
 pub extern "C" fn cobra_recover(
     values: &[u8],
@@ -25,7 +25,8 @@ pub extern "C" fn cobra_recover(
         (now (values .entry)) (now (out .entry)) ⌝ }
     ensures leaves { λ r. ⌜ now (out .exit) ≡ recoverLeft count total width (now (support .entry)) (cube (decoded (now (support .entry))) degree)
         (now (values .entry)) (now (out .entry)) ⌝ }
-    ensures decides { λ r. ⌜ Decides (RecoverHolds count total width (now (support .entry)) (cube (decoded (now (support .entry))) degree) (now (values .entry)) (now (out .entry)))
+    ensures decides { λ r. ⌜ Decides (RecoverHolds count total width (now (support .entry)) (cube (decoded (now (support .entry))) degree)
+        (now (values .entry)) (now (out .entry)))
         width (cube (decoded (now (support .entry))) degree) (decoded (now (values .entry))) r (decoded (now (out .exit))) ⌝ }
 {
     answers::outcome_code(byte_calls::recover(values, support, count, total, width, degree, out))
@@ -45,8 +46,10 @@ pub extern "C" fn cobra_value(
 ) -> u32
     ensures says { λ r. ⌜ told r (now (value .exit)) ≡ bytesValueReply count total width (now (support .entry))
         (cube (decoded (now (support .entry))) degree) (now (coeffs .entry)) (now (point .entry)) ⌝ }
-    ensures values { λ r. ⌜ Valued (ValueHolds count total width (now (support .entry)) (cube (decoded (now (support .entry))) degree) (now (coeffs .entry)) (now (point .entry)))
-        width (cube (decoded (now (support .entry))) degree) (decoded (now (coeffs .entry))) (decoded (now (point .entry))) (told r (now (value .exit))) ⌝ }
+    ensures values { λ r. ⌜ Valued (ValueHolds count total width (now (support .entry)) (cube (decoded (now (support .entry))) degree)
+        (now (coeffs .entry)) (now (point .entry)))
+        width (cube (decoded (now (support .entry))) degree) (decoded (now (coeffs .entry))) (decoded (now (point .entry))) (told r
+        (now (value .exit))) ⌝ }
 {
     answers::deliver(
         byte_calls::value(coeffs, support, count, total, width, degree, point),
@@ -71,9 +74,11 @@ pub extern "C" fn cobra_fit(
     ensures says { λ r. ⌜ told r (now («degree_used» .exit)) ≡ fitBytesReply count (now (support .entry)) (now (weights .entry))
         (now (targets .entry)) (now (out .entry))
         (fitHeld total width (now (support .entry)) «max_degree» «grid_degree» (now (weights .entry)) (now (targets .entry))) ⌝ }
-    ensures leaves { λ r. ⌜ now (out .exit) ≡ fitBytesLeft count (now (support .entry)) (now (weights .entry)) (now (targets .entry)) (now (out .entry))
+    ensures leaves { λ r. ⌜ now (out .exit) ≡ fitBytesLeft count (now (support .entry)) (now (weights .entry)) (now (targets .entry))
+        (now (out .entry))
         (fitHeld total width (now (support .entry)) «max_degree» «grid_degree» (now (weights .entry)) (now (targets .entry))) ⌝ }
-    ensures fits { λ r. ⌜ Fits width (cube (decoded (now (support .entry))) (min «max_degree» «grid_degree»)) (cube (decoded (now (support .entry))) «grid_degree»)
+    ensures fits { λ r. ⌜ Fits width (cube (decoded (now (support .entry))) (min «max_degree» «grid_degree»)) (cube (decoded
+        (now (support .entry))) «grid_degree»)
         «max_degree» (decoded (now (weights .entry))) (decoded (now (targets .entry))) r (now («degree_used» .exit)) (decoded (now (out .exit))) ⌝ }
 {
     answers::deliver(

@@ -1,4 +1,4 @@
--- Examples, by computation: two that the page docs/DEMAND-3.md walks through, and four that show why the words of demand 3 say what they say and
+-- Examples, by computation: those that the page docs/DEMAND-3.md walks through, and four that show why the words of demand 3 say what they say and
 -- not a little more or less.
 use mathlib.Core.Path.{_≡_, refl}
 use mathlib.Core.List.{List, [], _∷_, map}
@@ -6,7 +6,7 @@ use Prim.Native.Nat.{ℕ, _^_}
 use lib.IntN.{pos, negsuc}
 use Rattle.meaning.specs.Tables.{tabulate}
 use Rattle.meaning.specs.Boxes.{cells, cell, digits}
-use Rattle.meaning.specs.Factorials.{twos, factorial, falling, oddPart}
+use Rattle.meaning.specs.Factorials.{twos, factorial, falling, oddPart, degreeCap}
 use Rattle.meaning.specs.Inverses.{lifted}
 use Rattle.meaning.specs.Stirling.{stirling2}
 use Rattle.meaning.specs.Sums.{sum}
@@ -63,3 +63,24 @@ pub kept-bits : (output 8 2 (0 ∷ 0 ∷ 254 ∷ []) ≡ 0 ∷ 0 ∷ 127 ∷ [])
     × (sumLeft 1 8 (0 ∷ []) (2 ∷ []) (0 ∷ 0 ∷ 127 ∷ []) (0 ∷ 0 ∷ 1 ∷ []) (7 ∷ 7 ∷ 7 ∷ []) ≡ 0 ∷ 0 ∷ 0 ∷ [])
 unfolding recoveryLeft sumLeft cells cell digits tabulate twos factorial oddPart lifted
 kept-bits = (refl, refl, refl)
+
+-- the level formula 200 - 8x + 5x²
+unfoldable pub level : List Term
+level =
+    record { coefficient = pos 200; exponents = 0 ∷ [] }
+    ∷ record { coefficient = negsuc 7; exponents = 1 ∷ [] }
+    ∷ record { coefficient = pos 5; exponents = 2 ∷ [] }
+    ∷ []
+
+-- two readings are accepted, and the answer 200 - 3x has 194 at 2 where the formula has 204
+pub too-small : (number 8 1 (200 ∷ 197 ∷ []) ≡ 0) × (output 8 1 (200 ∷ 197 ∷ []) ≡ 200 ∷ 253 ∷ [])
+    × (map (λ (x : ℕ). polynomialValue 8 (1 ∷ []) level (pos x ∷ [])) (0 ∷ 1 ∷ 2 ∷ []) ≡ 200 ∷ 197 ∷ 204 ∷ [])
+    × (value (2 ^ 8) (1 ∷ []) (200 ∷ 253 ∷ []) (2 ∷ []) ≡ 194)
+unfolding recoveryNumber recoveryLeft cells cell digits tabulate twos factorial oddPart lifted termsAt productℤ powerℤ residue level value product falling sum
+too-small = (refl, refl, refl, refl)
+
+-- ten readings decide at w 8, and show the formula: 200 - 3x + 5x (x - 1)
+pub deciding : (degreeCap 8 ≡ 10)
+    × (output 8 9 (200 ∷ 197 ∷ 204 ∷ 221 ∷ 248 ∷ 29 ∷ 76 ∷ 133 ∷ 200 ∷ 21 ∷ []) ≡ 200 ∷ 253 ∷ 5 ∷ 0 ∷ 0 ∷ 0 ∷ 0 ∷ 0 ∷ 0 ∷ 0 ∷ [])
+unfolding recoveryLeft cells cell digits tabulate twos factorial oddPart lifted degreeCap
+deciding = (refl, refl)

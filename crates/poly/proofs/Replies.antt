@@ -11,7 +11,8 @@ use Rattle.meaning.specs.Values.{value, bound, boxTotal, boxReduced}
 use Rattle.meaning.specs.Recovery.{every}
 use Rattle.meaning.specs.Replies.{Reply, accepted, refused, between}
 use Rattle.meaning.specs.Settings.{callNumber, first}
-use Rattle.meaning.specs.Calls.{reply, truth, Form, formNumber, sameList, validReply, valueReply, sameReply, sumNumber, sumLeft, reduceNumber, reduceLeft, left}
+use Rattle.meaning.specs.Calls.{reply, truth, Form, formNumber, sameList, left}
+use Rattle.meaning.specs.Calls.{validReply, valueReply, sameReply, sumNumber, sumLeft, reduceNumber, reduceLeft}
 use Rattle.theory.specs.Settings.{passes}
 use Rattle.theory.specs.BoxBounds.{isBelow}
 use Rattle.demand3.specs.Settings.{ValuePasses, ValidPasses, SumPasses, ReducePasses}
@@ -26,22 +27,30 @@ use Rattle.answers.specs.Laws.{Settled, Unsettled, unsettled-call, reply-code, 
 
 -- the reply, and what it promises
 abbrev ValueSaid : ℕ → ℕ → List ℕ → List ℕ → List ℕ → List ℕ → Reply → Type 0
-ValueSaid total w support ds c xs r = (r ≡ valueReply total w support ds c xs) × Valued (ValuePasses total w support ds c xs) w ds c xs r
+ValueSaid total w support ds c xs r =
+    (r ≡ valueReply total w support ds c xs)
+    × Valued (ValuePasses total w support ds c xs) w ds c xs r
 
 module _ (w : ℕ) (c xs : List ℕ) {total : ℕ} {support ds : List ℕ} where
   pub value-turned : {r : Refusal} → Unsettled false total (between 2 64 w) support ds r → ValueSaid total w support ds c xs (refused (code r))
   unfolding valueReply
-  value-turned u = also (table-valued total w support ds c xs) (turned-reply u (eqb (length c) (cells ds) && eqb (length xs) (length support)) (value (2 ^ w) ds c xs))
+  value-turned u =
+      also (table-valued total w support ds c xs)
+      (turned-reply u (eqb (length c) (cells ds) && eqb (length xs) (length support)) (value (2 ^ w) ds c xs))
 
   module _ {count : ℕ} (s : Settled false total (between 2 64 w) support ds count) where
     pub value-lengths : (eqb (length c) (cells ds) && eqb (length xs) (length support)) ≡ false → ValueSaid total w support ds c xs (refused 9)
     unfolding valueReply
-    value-lengths e = also (table-valued total w support ds c xs) (length-reply s (eqb (length c) (cells ds) && eqb (length xs) (length support)) e (value (2 ^ w) ds c xs))
+    value-lengths e =
+        also (table-valued total w support ds c xs)
+        (length-reply s (eqb (length c) (cells ds) && eqb (length xs) (length support)) e (value (2 ^ w) ds c xs))
 
     pub value-accepted : (eqb (length c) (cells ds) && eqb (length xs) (length support)) ≡ true
         → {v : ℕ} → v ≡ value (2 ^ w) ds c xs → ValueSaid total w support ds c xs (accepted v)
     unfolding valueReply
-    value-accepted e q = also (table-valued total w support ds c xs) (accepted-reply s (eqb (length c) (cells ds) && eqb (length xs) (length support)) e (value (2 ^ w) ds c xs) q)
+    value-accepted e q =
+        also (table-valued total w support ds c xs)
+        (accepted-reply s (eqb (length c) (cells ds) && eqb (length xs) (length support)) e (value (2 ^ w) ds c xs) q)
 
 -- ---- validity
 
@@ -94,18 +103,24 @@ module _ (w : ℕ) (a b out : List ℕ) {total : ℕ} {support ds : List ℕ} wh
   pub sum-turned : {r : Refusal} → Unsettled false total (between 2 64 w) support ds r
       → SumSaid total w support ds a b out (code r) out
   unfolding sumNumber sumLeft
-  sum-turned u = also₂ (summed total w support ds a b out) (table-turned (eqb (length a) (cells ds) && eqb (length b) (cells ds) && eqb (length out) (cells ds)) (boxTotal (bound w) ds a b) out u)
+  sum-turned u =
+      also₂ (summed total w support ds a b out)
+      (table-turned (eqb (length a) (cells ds) && eqb (length b) (cells ds) && eqb (length out) (cells ds)) (boxTotal (bound w) ds a b) out u)
 
   module _ {count : ℕ} (s : Settled false total (between 2 64 w) support ds count) where
     pub sum-lengths : (eqb (length a) (cells ds) && eqb (length b) (cells ds) && eqb (length out) (cells ds)) ≡ false
         → SumSaid total w support ds a b out 9 out
     unfolding sumNumber sumLeft
-    sum-lengths e = also₂ (summed total w support ds a b out) (table-lengths (eqb (length a) (cells ds) && eqb (length b) (cells ds) && eqb (length out) (cells ds)) (boxTotal (bound w) ds a b) out s e)
+    sum-lengths e =
+        also₂ (summed total w support ds a b out)
+        (table-lengths (eqb (length a) (cells ds) && eqb (length b) (cells ds) && eqb (length out) (cells ds)) (boxTotal (bound w) ds a b) out s e)
 
     pub sum-accepted : (eqb (length a) (cells ds) && eqb (length b) (cells ds) && eqb (length out) (cells ds)) ≡ true
         → {t : List ℕ} → t ≡ boxTotal (bound w) ds a b → SumSaid total w support ds a b out 0 t
     unfolding sumNumber sumLeft
-    sum-accepted e q = also₂ (summed total w support ds a b out) (table-accepted (eqb (length a) (cells ds) && eqb (length b) (cells ds) && eqb (length out) (cells ds)) (boxTotal (bound w) ds a b) out s e q)
+    sum-accepted e q =
+        also₂ (summed total w support ds a b out)
+        (table-accepted (eqb (length a) (cells ds) && eqb (length b) (cells ds) && eqb (length out) (cells ds)) (boxTotal (bound w) ds a b) out s e q)
 
 -- coefficients taken modulo their bounds
 abbrev ReduceSaid : ℕ → ℕ → List ℕ → List ℕ → List ℕ → ℕ → List ℕ → Type 0

@@ -21,10 +21,13 @@ pub fn normalize_polynomial(
     max_degree: u8,
     out: &mut [u64],
 ) -> Outcome
-    ensures says { λ r. ⌜ saidNumber r ≡ inOutNumber false total bitwidth (now (support .entry)) (cube (now (support .entry)) «max_degree») (now (coeffs .entry)) (now (out .entry)) ⌝ }
-    ensures leaves { λ r. ⌜ now (out .exit) ≡ convertLeft total bitwidth (now (support .entry)) (cube (now (support .entry)) «max_degree») (now (coeffs .entry)) (now (out .entry))
+    ensures says { λ r. ⌜ saidNumber r ≡ inOutNumber false total bitwidth (now (support .entry)) (cube (now (support .entry)) «max_degree»)
+        (now (coeffs .entry)) (now (out .entry)) ⌝ }
+    ensures leaves { λ r. ⌜ now (out .exit) ≡ convertLeft total bitwidth (now (support .entry)) (cube (now (support .entry)) «max_degree»)
+        (now (coeffs .entry)) (now (out .entry))
         (normalBox bitwidth (cube (now (support .entry)) «max_degree») (now (coeffs .entry))) ⌝ }
-    ensures normalises { λ r. ⌜ Normalised (ConvertPasses total bitwidth (now (support .entry)) (cube (now (support .entry)) «max_degree») (now (coeffs .entry)) (now (out .entry)))
+    ensures normalises { λ r. ⌜ Normalised (ConvertPasses total bitwidth (now (support .entry)) (cube (now (support .entry)) «max_degree»)
+        (now (coeffs .entry)) (now (out .entry)))
         bitwidth (cube (now (support .entry)) «max_degree») (now (coeffs .entry)) (saidNumber r) (now (out .exit)) ⌝ }
 {
     match basis_transform::to_factorial_basis(coeffs, support, total, bitwidth, max_degree, out) {

@@ -11,7 +11,7 @@ ghost use Rattle.two_adic_solver.specs.Shown.{clearedRow, Clearing, Pivo
 use crate::rows;
 
 // Clears column `column` in one row, unless it is used: the pivot row, whose entry there has the given twos and the inverse v of its odd part, is
-// subtracted as often as it takes. `source` has its entries from that column on, as far as they are not 0, and `side` its right side.
+// subtracted as often as it takes. `source` has its entries from that column on, up to the last that is not 0, and `side` its right side.
 fn clear_row(
     matrix: &mut [u64],
     right: &mut [u64],

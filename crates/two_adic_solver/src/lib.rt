@@ -3,6 +3,7 @@ mod elimination;
 pub mod fixed;
 mod fixed_elimination;
 mod fixed_substitution;
+mod rooms;
 mod rows;
 pub mod solver;
 mod substitution;

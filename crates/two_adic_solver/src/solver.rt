@@ -9,6 +9,7 @@ ghost use Rattle.two_adic_solver.specs.Solves.{Solves};
 ghost use Rattle.two_adic_solver.specs.Solved.{Ended, Concluded, Finished};
 ghost use Rattle.answers.specs.Said.{saidNumber};
 use crate::elimination;
+use crate::rooms;
 use crate::rows;
 use crate::substitution;
 use answers::Outcome;
@@ -63,7 +64,7 @@ fn conclude(
 }
 
 // A system that fits, with room for the marks of the used rows, for each column's pivot row and for a copy of one.
-fn solve_with(
+pub(crate) fn solve_with(
     matrix: &mut [u64],
     right: &mut [u64],
     used: &mut [bool],
@@ -85,149 +86,6 @@ fn solve_with(
     }
     tables::clear(answer);
     Outcome::Refused(Refusal::NoAnswer)
-}
-
-// With room for 64 rows and columns.
-fn solve_small(
-    matrix: &mut [u64],
-    right: &mut [u64],
-    columns: usize,
-    bitwidth: u32,
-    answer: &mut [u64],
-) -> Outcome
-    requires { ⌜ (length (now matrix) ≡ length (now right) * columns) × (length (now matrix) ≤ 65536) × (columns ≤ 64) × (length (now answer) ≡ columns) ⌝ }
-    requires { ⌜ (length (now right) ≤ 64) × (bitwidth ≤ 64) ⌝ }
-    ensures { λ r. ⌜ Finished bitwidth columns (now (matrix .entry)) (now (right .entry)) (now (matrix .exit)) (now (right .exit))
-        (now (answer .exit)) (saidNumber r) ⌝ }
-{
-    let mut used = [false; 64];
-    let mut pivots = [0; 64];
-    let mut room = [0; 64];
-    solve_with(
-        matrix,
-        right,
-        &mut used,
-        &mut pivots,
-        &mut room,
-        columns,
-        bitwidth,
-        answer,
-    )
-}
-
-// With room for 4,096 rows and 1,024 columns. It is for systems that are not small, so that its call of itself is never made: that call keeps the compiler
-// from laying the room out in the frame of the small ones.
-fn solve_middle(
-    matrix: &mut [u64],
-    right: &mut [u64],
-    columns: usize,
-    bitwidth: u32,
-    answer: &mut [u64],
-) -> Outcome
-    requires { ⌜ (length (now matrix) ≡ length (now right) * columns) × (length (now matrix) ≤ 65536) × (columns ≤ 1024) × (length (now answer) ≡ columns) ⌝ }
-    requires { ⌜ (length (now right) ≤ 4096) × (bitwidth ≤ 64) × (length (now right) ≤ 64 → 64 < columns) ⌝ }
-    ensures { λ r. ⌜ Finished bitwidth columns (now (matrix .entry)) (now (right .entry)) (now (matrix .exit)) (now (right .exit))
-        (now (answer .exit)) (saidNumber r) ⌝ }
-{
-    if right.len() <= 64 {
-        if answer.len() <= 64 {
-            let never = solve_middle(matrix, right, columns, bitwidth, answer);
-            tables::clear(answer);
-            return never;
-        }
-    }
-    let mut used = [false; 4096];
-    let mut pivots = [0; 1024];
-    let mut room = [0; 1024];
-    solve_with(
-        matrix,
-        right,
-        &mut used,
-        &mut pivots,
-        &mut room,
-        columns,
-        bitwidth,
-        answer,
-    )
-}
-
-// With room for 65,536 rows and columns, in the same way.
-fn solve_large(
-    matrix: &mut [u64],
-    right: &mut [u64],
-    columns: usize,
-    bitwidth: u32,
-    answer: &mut [u64],
-) -> Outcome
-    requires { ⌜ (length (now matrix) ≡ length (now right) * columns) × (length (now matrix) ≤ 65536) × (columns ≤ 65536) × (length (now answer) ≡ columns) ⌝ }
-    requires { ⌜ (length (now right) ≤ 65536) × (bitwidth ≤ 64) × (length (now right) ≤ 4096 → 1024 < columns) ⌝ }
-    ensures { λ r. ⌜ Finished bitwidth columns (now (matrix .entry)) (now (right .entry)) (now (matrix .exit)) (now (right .exit))
-        (now (answer .exit)) (saidNumber r) ⌝ }
-{
-    if right.len() <= 4096 {
-        if answer.len() <= 1024 {
-            let never = solve_large(matrix, right, columns, bitwidth, answer);
-            tables::clear(answer);
-            return never;
-        }
-    }
-    let mut used = [false; 65536];
-    let mut pivots = [0; 65536];
-    let mut room = [0; 65536];
-    solve_with(
-        matrix,
-        right,
-        &mut used,
-        &mut pivots,
-        &mut room,
-        columns,
-        bitwidth,
-        answer,
-    )
-}
-
-// A system that is not small, with the room that it needs.
-fn solve_wide(
-    matrix: &mut [u64],
-    right: &mut [u64],
-    columns: usize,
-    bitwidth: u32,
-    answer: &mut [u64],
-) -> Outcome
-    requires { ⌜ (length (now matrix) ≡ length (now right) * columns) × (length (now matrix) ≤ 65536) × (columns ≤ 65536) × (length (now answer) ≡ columns) ⌝ }
-    requires { ⌜ (length (now right) ≤ 65536) × (bitwidth ≤ 64) × (length (now right) ≤ 64 → 64 < columns) ⌝ }
-    ensures { λ r. ⌜ Finished bitwidth columns (now (matrix .entry)) (now (right .entry)) (now (matrix .exit)) (now (right .exit))
-        (now (answer .exit)) (saidNumber r) ⌝ }
-{
-    if 4096 < right.len() {
-        return solve_large(matrix, right, columns, bitwidth, answer);
-    }
-    if 1024 < columns {
-        return solve_large(matrix, right, columns, bitwidth, answer);
-    }
-    solve_middle(matrix, right, columns, bitwidth, answer)
-}
-
-// A system that fits, with the room that it needs.
-fn solve_fitting(
-    matrix: &mut [u64],
-    right: &mut [u64],
-    columns: usize,
-    bitwidth: u32,
-    answer: &mut [u64],
-) -> Outcome
-    requires { ⌜ (length (now matrix) ≡ length (now right) * columns) × (length (now matrix) ≤ 65536) × (columns ≤ 65536) × (length (now answer) ≡ columns) ⌝ }
-    requires { ⌜ (length (now right) ≤ 65536) × (bitwidth ≤ 64) ⌝ }
-    ensures { λ r. ⌜ Finished bitwidth columns (now (matrix .entry)) (now (right .entry)) (now (matrix .exit)) (now (right .exit))
-        (now (answer .exit)) (saidNumber r) ⌝ }
-{
-    if 64 < right.len() {
-        return solve_wide(matrix, right, columns, bitwidth, answer);
-    }
-    if 64 < columns {
-        return solve_wide(matrix, right, columns, bitwidth, answer);
-    }
-    solve_small(matrix, right, columns, bitwidth, answer)
 }
 
 // The tests of a call, in the order 3, 8, 9, and the system where it passes them.
@@ -268,7 +126,7 @@ fn solve_checked(
     if answer.len() != columns {
         return Outcome::Refused(Refusal::WrongLength);
     }
-    solve_fitting(matrix, right, columns, bitwidth, answer)
+    rooms::solve_fitting(matrix, right, columns, bitwidth, answer)
 }
 
 // Solves a system of equations modulo 2^bitwidth. The matrix has its rows one behind the other, each of `columns` entries; the row count is its length

@@ -4,13 +4,13 @@ use borrow.Author.Needs.{needs}
 use native.Mathlib.Omega.{arith}
 use borrow.Fn.PlainCycle.{Measures, is, falls, and}
 use Rattle.two_adic_solver.proofs.SolverLaws.{unmarked, less-room}
-use Rattle.two_adic_solver.proofs.solver.solve_middle.Reads as reads
-use Rattle.two_adic_solver.proofs.solver.solve_middle.Kinds as kinds
-use Rattle.two_adic_solver.proofs.solver.+solve_middle.Lts-solve_middle as lts
+use Rattle.two_adic_solver.proofs.rooms.solve_middle.Reads as reads
+use Rattle.two_adic_solver.proofs.rooms.solve_middle.Kinds as kinds
+use Rattle.two_adic_solver.proofs.rooms.+solve_middle.Lts-solve_middle as lts
 use Rattle.tables.proofs.clear.Reads as clear-reads
 use Rattle.two_adic_solver.proofs.solver.solve_with.Reads as solve-with-reads
-use Rattle.two_adic_solver.proofs.solver.+solve_middle.{statement}
-use Rattle.two_adic_solver.proofs.solver.+solve_middle.Tie.{close}
+use Rattle.two_adic_solver.proofs.rooms.+solve_middle.{statement}
+use Rattle.two_adic_solver.proofs.rooms.+solve_middle.Tie.{close}
 
 abbrev μ : Measures 3 kinds.ps ℕ
 μ κs a = 0

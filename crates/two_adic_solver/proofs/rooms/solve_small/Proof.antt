@@ -2,8 +2,8 @@
 use borrow.Author.Needs.{needs}
 use native.Mathlib.Omega.{arith}
 use Rattle.two_adic_solver.proofs.SolverLaws.{unmarked}
-use Rattle.two_adic_solver.proofs.solver.solve_small.Statement.{statement}
-use Rattle.two_adic_solver.proofs.solver.solve_small.Tie as tie
+use Rattle.two_adic_solver.proofs.rooms.solve_small.Statement.{statement}
+use Rattle.two_adic_solver.proofs.rooms.solve_small.Tie as tie
 
 pub solve-small-spec : {M : Type 1} → statement M
 solve-small-spec =

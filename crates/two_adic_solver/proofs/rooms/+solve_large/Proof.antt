@@ -4,13 +4,13 @@ use borrow.Author.Needs.{needs}
 use native.Mathlib.Omega.{arith}
 use borrow.Fn.PlainCycle.{Measures, is, falls, and}
 use Rattle.two_adic_solver.proofs.SolverLaws.{unmarked, less-room}
-use Rattle.two_adic_solver.proofs.solver.solve_large.Reads as reads
-use Rattle.two_adic_solver.proofs.solver.solve_large.Kinds as kinds
-use Rattle.two_adic_solver.proofs.solver.+solve_large.Lts-solve_large as lts
+use Rattle.two_adic_solver.proofs.rooms.solve_large.Reads as reads
+use Rattle.two_adic_solver.proofs.rooms.solve_large.Kinds as kinds
+use Rattle.two_adic_solver.proofs.rooms.+solve_large.Lts-solve_large as lts
 use Rattle.tables.proofs.clear.Reads as clear-reads
 use Rattle.two_adic_solver.proofs.solver.solve_with.Reads as solve-with-reads
-use Rattle.two_adic_solver.proofs.solver.+solve_large.{statement}
-use Rattle.two_adic_solver.proofs.solver.+solve_large.Tie.{close}
+use Rattle.two_adic_solver.proofs.rooms.+solve_large.{statement}
+use Rattle.two_adic_solver.proofs.rooms.+solve_large.Tie.{close}
 
 abbrev μ : Measures 3 kinds.ps ℕ
 μ κs a = 0
