@@ -128,6 +128,7 @@ uint32_t cobra_recover(const uint8_t *values, size_t values_bytes,
  * width    2 to 64
  * degree   the highest exponent of each variable, 0 or more
  * point    a coordinate for each support variable, in the support's order: count entries
+ *          (it counts modulo 2^width: -1 is 2^64 - 1)
  * value    gets the value, below 2^width, with COBRA_OK, and 0 with every other number
  *
  * COBRA_DEGREE_ZERO, COBRA_NOT_DIVISIBLE and COBRA_NO_ANSWER are never said.

@@ -2,7 +2,7 @@
 use mathlib.Core.Path.{_≡_, refl, sym, _∙_, ap}
 use mathlib.Core.Bool.{Bool, true, false, cond}
 use mathlib.Core.List.{List}
-use Prim.Native.Nat.{ℕ, zero, suc, pred}
+use Prim.Native.Nat.{ℕ, suc, pred}
 use Rattle.meaning.specs.Replies.{Reply, accepted, refused}
 use Rattle.meaning.specs.Boxes.{cells}
 use Rattle.meaning.specs.Settings.{first, settingsNumber, callNumber}

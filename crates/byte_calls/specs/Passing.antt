@@ -10,7 +10,6 @@ use lib.Pow.{pow-pos}
 use lib.ListN.{length}
 use Rattle.meaning.specs.Tables.{tabulate, at}
 use Rattle.meaning.specs.Boxes.{cells}
-use Rattle.meaning.specs.Values.{value}
 use Rattle.meaning.specs.Recovery.{accepts, answer}
 use Rattle.meaning.specs.Replies.{Reply, between}
 use Rattle.meaning.specs.Settings.{smallNumber, first}

@@ -1,20 +1,19 @@
 -- Conversions undo one another, and the bytes that recovery left are a table that can be lent on.
 use mathlib.Core.Path.{_≡_, sym, ap, _∙_}
 use mathlib.Core.Logic.{inl}
-use mathlib.Core.Bool.{Bool, true, false, cond}
+use mathlib.Core.Bool.{false}
 use Prim.Native.Nat.{ℕ, _*_, _%_, _^_, _<_}
 use mathlib.Core.List.{List}
 use lib.Pow.{pow-pos}
 use lib.IntN.{ℤ}
 use lib.ListN.{length}
-use Rattle.meaning.specs.Tables.{tabulate, at}
+use Rattle.meaning.specs.Tables.{at}
 use Rattle.meaning.specs.Boxes.{cells}
 use Rattle.meaning.specs.Polynomials.{Term}
-use Rattle.meaning.specs.Recovery.{accepts, answer}
 use Rattle.meaning.specs.Replies.{Reply, accepted}
 use Rattle.meaning.specs.Conversions.{fallingBox, powerBox}
 use Rattle.meaning.specs.Calls.{left, inOutNumber, convertLeft}
-use Rattle.theory.specs.Tables.{length-tabulate, at-tabulate}
+use Rattle.theory.specs.Tables.{at-tabulate}
 use Rattle.theory.specs.ConversionLaws.{powerBox-fallingBox, fallingBox-powerBox}
 use Rattle.demand3.specs.Words.{polynomialValue, PointOf, Agreeing}
 use Rattle.demand3.specs.Promises.{Decides, Valued}

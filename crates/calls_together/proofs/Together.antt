@@ -8,7 +8,7 @@ use lib.ListN.{length}
 use Rattle.meaning.specs.Boxes.{cells}
 use Rattle.meaning.specs.Polynomials.{Term}
 use Rattle.meaning.specs.Replies.{Reply, told, accepted}
-use Rattle.demand3.specs.Words.{polynomialValue, PointOf, Agreeing, NormalFormOf, Coefficients, GridSum}
+use Rattle.demand3.specs.Words.{polynomialValue, PointOf, Agreeing, Coefficients, GridSum}
 use Rattle.demand3.specs.Settings.{Passing, BoxPasses, ValuePasses, ValidPasses, SumPasses, ConvertPasses}
 use Rattle.demand3.specs.Promises.{Decides, Valued, Judged, Summed, Normalised}
 use Rattle.demand3.specs.Consequences.{sum-accepted, sum-answer, recovered-normal-form}

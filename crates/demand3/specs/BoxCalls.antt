@@ -1,8 +1,8 @@
 -- The calls on boxes keep their promises: each follows from the equations of the call's contract.
 use mathlib.Core.Path.{_≡_, refl, sym, subst, ap, ap₂, _∙_}
 use mathlib.Core.Logic.{_⊎_, inl, inr, _↔_}
-use mathlib.Core.Bool.{Bool, true, false, _&&_, cond}
-use Prim.Native.Nat.{ℕ, zero, suc, _+_, _%_, _^_, _<_}
+use mathlib.Core.Bool.{Bool, true, false, _&&_}
+use Prim.Native.Nat.{ℕ, zero, suc, _+_, _%_, _^_}
 use mathlib.Core.List.{List, [], _∷_, map}
 use native.Mathlib.Nat.{zero-mod, mod-lt}
 use borrow.Author.Tests.{ltb-true, lt-ltb, eqb-true, eq-eqb}
@@ -10,11 +10,10 @@ use lib.Dec.{T, ltb, eqb}
 use lib.Pow.{pow-pos}
 use lib.IntN.{ℤ, pos}
 use lib.ListN.{length, getD}
-use Rattle.meaning.specs.Tables.{tabulate, at}
+use Rattle.meaning.specs.Tables.{at}
 use Rattle.meaning.specs.Boxes.{cells, digits}
 use Rattle.meaning.specs.Values.{value, bound, Normal, boxTotal, boxReduced}
 use Rattle.meaning.specs.Integers.{residue}
-use Rattle.meaning.specs.Polynomials.{Term}
 use Rattle.meaning.specs.Conversions.{fallingBox, powerBox, normalBox}
 use Rattle.meaning.specs.Recovery.{every}
 use Rattle.meaning.specs.Replies.{Reply, between}
@@ -29,7 +28,7 @@ use Rattle.theory.specs.Values.{value-cong-point}
 use Rattle.theory.specs.DemandThree.{value-total, value-cong-normal}
 use Rattle.theory.specs.ConversionLaws.{value-fallingBox, eval-powerBox, fallingBox-bounded, powerBox-bounded}
 use Rattle.theory.specs.Widths.{bound-pos}
-use Rattle.demand3.specs.Words.{polynomialValue, boxValue, PointOf, NormalForm, NormalFormOf, SumOf, Coefficients}
+use Rattle.demand3.specs.Words.{boxValue, PointOf, NormalForm, SumOf}
 use Rattle.demand3.specs.Tests.{and-true, false-true, suc-zero}
 use Rattle.demand3.specs.Settings.{WidthFits, BoxPasses, ValuePasses, ReducePasses, ConvertPasses, SumPasses, ValidPasses, width-iff, call-iff}
 use Rattle.demand3.specs.Promises.{Valued, Summed, Reduced, Judged, ToFalling, ToPowers, Normalised}

@@ -1,25 +1,26 @@
 -- What follows from the demands of several calls, in the same words. Two polynomials written one behind the other are their sum, so that two accepted grids
 -- have an accepted sum; its answer is the only normal form that agrees, so it is every normal form of the sum of the two answers. A polynomial with the
--- values of a grid has those of every grid that it contains. Recovery and the normaliser leave the same of one polynomial, as it has one normal form.
+-- values of a grid has those of every grid that it contains. Recovery and the normaliser leave the same of one polynomial, as it has one normal form. A
+-- grid that decides tells any two polynomials apart.
 use mathlib.Core.Path.{_≡_, sym, ap, _∙_}
 use Prim.Native.Nat.{ℕ, suc, _+_, _%_, _^_, _≤_, _<_, suc-le-suc}
 use mathlib.Core.List.{List, [], _∷_, _++_, map}
 use native.Mathlib.Nat.{le-trans, mod-eq-of-lt, zero-lt-suc}
 use native.Mathlib.Omega.{arith}
 use lib.Pow.{pow-pos}
-use lib.IntN.{pos}
+use lib.IntN.{ℤ, pos}
 use lib.ListN.{length}
 use Rattle.meaning.specs.Tables.{at}
 use Rattle.meaning.specs.Boxes.{cells, digits, cell, Within, none, next}
 use Rattle.meaning.specs.Polynomials.{Term}
-use Rattle.theory.specs.Congruence.{Cong, cong-trans, cong-add, cong-sym, mod-cong}
+use Rattle.theory.specs.Congruence.{cong-add, mod-cong}
 use Rattle.theory.specs.Boxes.{digits-within, digits-cell, cell-lt}
 use Rattle.theory.specs.Integers.{residue-lt}
 use Rattle.theory.specs.OpenGrids.{residue-append}
-use Rattle.demand3.specs.Words.{polynomialValue, boxValue, OnGrid, Agreeing, NormalFormOf, SumOf, GridSum, Contains}
+use Rattle.demand3.specs.Words.{polynomialValue, OnGrid, Agreeing, NormalFormOf, SumOf, GridSum, Contains, Deciding}
 use Rattle.demand3.specs.Tests.{suc-zero}
+use Rattle.demand3.specs.Recovery.{answer-decides}
 use Rattle.demand3.specs.Promises.{Decides}
-use Rattle.demand3.specs.NormalForms.{normal-form-unique}
 
 -- ---- sums
 
@@ -86,3 +87,10 @@ module _ {w : ℕ} {es u ds v : List ℕ} (contains : Contains w es u ds v) wher
 pub recovered-normal-form : {C : Type 0} {w : ℕ} {ds v : List ℕ} {number : ℕ} {after : List ℕ}
     → Decides C w ds v number after → number ≡ 0 → (p : List Term) → Agreeing w ds v p → NormalFormOf w ds p after
 recovered-normal-form call zero p a = record { normal = call .normal zero; values = call .values zero p a }
+
+-- ---- deciding grids
+
+-- two polynomials of any exponents that have the same values on a grid that decides are one function
+pub deciding-one-function : (w : ℕ) (ds v : List ℕ) → Deciding w ds → (p q : List Term) → OnGrid w ds v p → OnGrid w ds v q
+    → (zs : List ℤ) → polynomialValue w ds p zs ≡ polynomialValue w ds q zs
+deciding-one-function w ds v h p q a b zs = sym (answer-decides w ds v h p a zs) ∙ answer-decides w ds v h q b zs

@@ -15,7 +15,7 @@ use Rattle.meaning.specs.Boxes.{cells}
 use Rattle.meaning.specs.Replies.{between}
 use Rattle.meaning.specs.Settings.{some, repeated, settingsNumber, smallNumber, callNumber}
 use Rattle.meaning.specs.Calls.{inOutNumber}
-use Rattle.demand3.specs.Tests.{false-true, and-true, cond-false, cond-true, first-zero, not-6, cond-not-6, first-not-6, none-pass, none-repeated, Distinct, positive-iff}
+use Rattle.demand3.specs.Tests.{false-true, and-true, cond-false, cond-true, first-zero, not-6, cond-not-6, first-not-6, none-pass, none-repeated, positive-iff}
 
 -- 3: the width is 2 to 64
 abbrev pub WidthFits : ℕ → Type 0

@@ -24,7 +24,7 @@ use Rattle.theory.specs.Values.{entry}
 use Rattle.theory.specs.BoxConversions.{eval-falling-along, eval-power-along}
 use Rattle.theory.specs.MatrixLines.{Undoes, grid-cong, entry-matrixBox, matrixBox-bounded, matrixBox-of-mul, matrixBox-undo}
 use Rattle.theory.specs.Widths.{bound-pos}
-use Rattle.theory.specs.DemandThree.{value-cong-normal, normal-eq-of-values}
+use Rattle.theory.specs.DemandThree.{value-cong-normal}
 
 -- the coefficient of the falling factorial j in the power e, and of the power j in the falling factorial e, modulo m
 abbrev toFalling : ℕ → ℕ → ℕ
@@ -139,9 +139,3 @@ module _ (w : ℕ) (ds c : List ℕ) where
 
   pub value-normalBox-eval : (xs : List ℕ) → value (2 ^ w) ds (normalBox w ds c) xs ≡ eval _^_ ds (entry ds c) xs % 2 ^ w
   value-normalBox-eval xs = value-normalBox xs ∙ value-fallingBox (2 ^ w) ds c xs
-
-  -- and it is the only normal form with these values on the grid
-  pub normalBox-unique : (d : List ℕ) → Normal w ds d →
-      ((i : ℕ) → i < cells ds → value (2 ^ w) ds d (digits ds i) ≡ eval _^_ ds (entry ds c) (digits ds i) % 2 ^ w) → d ≡ normalBox w ds c
-  normalBox-unique d normal same =
-      normal-eq-of-values w ds d (normalBox w ds c) normal normalBox-normal (λ i p. same i p ∙ sym (value-normalBox-eval (digits ds i)))

@@ -1,11 +1,11 @@
 -- Polynomials of any exponents, modulo m. Where every power of a coordinate is a sum of falling factorials to at most its degree, a polynomial, whatever its
 -- exponents, has at that point the value of a box: each term is cut to the box by Stirling's numbers. That is so at every grid point, where a falling
 -- factorial above the degree is 0.
-use mathlib.Core.Path.{_≡_, sym, ap, _∙_}
+use mathlib.Core.Path.{_≡_, sym, _∙_}
 use mathlib.Core.Logic.{inr}
 use Prim.Native.Nat.{ℕ, suc, _+_, _*_, _%_, _^_, _≤_, _<_}
 use mathlib.Core.List.{List, [], _∷_, map}
-use native.Mathlib.Nat.{mod-le, mul-comm}
+use native.Mathlib.Nat.{mod-le}
 use native.Mathlib.Omega.{arith}
 use lib.IntN.{ℤ, pos, _*ℤ_}
 use lib.ListN.{length, drop}

@@ -1,7 +1,7 @@
 -- Recovery at width w, in the words of its definition: the answer is a normal form; it agrees where it is accepted; it is accepted where some box
 -- agrees; the answer is the only normal form that agrees, and every other one disagrees at a grid point; two boxes that agree have the same values
--- everywhere; sums. Each is recovery of tables modulo m with the cells of the width.
-use mathlib.Core.Path.{_≡_, sym, ap₂, _∙_}
+-- everywhere; the value of a sum is the sum of the values. Each is recovery of tables modulo m with the cells of the width.
+use mathlib.Core.Path.{_≡_, sym, _∙_}
 use mathlib.Core.Logic.{_↔_}
 use Prim.Native.Nat.{ℕ, _+_, _%_, _^_, _<_}
 use mathlib.Core.List.{List}
@@ -16,8 +16,8 @@ use Rattle.theory.specs.Tables.{tabulate-cong}
 use Rattle.theory.specs.Every.{every-iff}
 use Rattle.theory.specs.Widths.{widthCell, divides-iff, Divided, divides-cases, coefficient-eq}
 use Rattle.theory.specs.WordDifferences.{difference-lt}
-use Rattle.theory.specs.GridRecovery.{Passes, solutions, solutionAt, tableTotal, solutions-bounded, solutions-agree, passes-of-agrees}
-use Rattle.theory.specs.GridRecovery.{bounded-unique, agrees-same, bounded-eq-of-values, value-cong-bounds, value-boxTotal, passes-total, solutions-total}
+use Rattle.theory.specs.GridRecovery.{Passes, solutions, solutionAt, solutions-bounded, solutions-agree, passes-of-agrees}
+use Rattle.theory.specs.GridRecovery.{bounded-unique, agrees-same, bounded-eq-of-values, value-cong-bounds, value-boxTotal}
 
 -- accepted is that every difference passes
 pub accepts-iff : (w : ℕ) (ds v : List ℕ) → T (accepts w ds v) ↔ Passes (widthCell w) ds v
@@ -80,16 +80,3 @@ module _ (w : ℕ) (ds : List ℕ) where
   -- the value of a sum of boxes is the sum of the values
   pub value-total : (c d xs : List ℕ) → value (2 ^ w) ds (boxTotal (bound w) ds c d) xs ≡ (value (2 ^ w) ds c xs + value (2 ^ w) ds d xs) % 2 ^ w
   value-total c d xs = value-boxTotal (pow-pos w) (widthCell w) ds c d xs
-
-  -- accepted tables have an accepted sum, and its answer is the sum of the answers
-  module _ (u v : List ℕ) (p : T (accepts w ds u)) (q : T (accepts w ds v)) where
-    pub accepts-total : T (accepts w ds (tableTotal (2 ^ w) ds u v))
-    accepts-total =
-        accepts-iff w ds (tableTotal (2 ^ w) ds u v) .1
-        (passes-total (pow-pos w) (widthCell w) ds u v (accepts-iff w ds u .0 p) (accepts-iff w ds v .0 q))
-
-    pub answer-total : answer w ds (tableTotal (2 ^ w) ds u v) ≡ boxTotal (bound w) ds (answer w ds u) (answer w ds v)
-    answer-total =
-        answer-eq w ds (tableTotal (2 ^ w) ds u v)
-        ∙ solutions-total (pow-pos w) (widthCell w) ds u v (accepts-iff w ds u .0 p) (accepts-iff w ds v .0 q)
-        ∙ sym (ap₂ (boxTotal (bound w) ds) (answer-eq w ds u) (answer-eq w ds v))

@@ -7,7 +7,7 @@ use native.Mathlib.Nat.{le-refl, zero-lt-suc, le-of-suc-le-suc, not-suc-le-zero,
 use native.Mathlib.Omega.{arith}
 use lib.Pow.{pow-pos}
 use lib.IntN.{ℤ, pos, _*ℤ_}
-use lib.ListN.{length, drop}
+use lib.ListN.{drop}
 use Rattle.meaning.specs.Tables.{at}
 use Rattle.meaning.specs.Factorials.{factorial, falling, twos, degreeCap}
 use Rattle.meaning.specs.Values.{product}
