@@ -2,22 +2,8 @@
 #ifndef DRIVER_H
 #define DRIVER_H
 
-#include "../../include/cobra.h"
-
-/* the library's calls on tables of u64, with which the calls on bytes are compared */
-uint32_t cobra_recover_multivar_poly(const uint64_t *values, size_t values_len,
-                                     const uint64_t *support, size_t support_len, uint32_t total,
-                                     uint32_t width, uint8_t degree, uint64_t *out, size_t out_len);
-uint32_t cobra_box_value(const uint64_t *coeffs, size_t coeffs_len, const uint64_t *support,
-                         size_t support_len, uint32_t total, uint32_t width, uint8_t degree,
-                         const uint64_t *point, size_t point_len, uint64_t *value);
-uint32_t cobra_recover_weighted_poly(const uint64_t *weights, size_t weights_len,
-                                     const uint64_t *targets, size_t targets_len,
-                                     const uint64_t *support, size_t support_len, uint32_t total,
-                                     uint32_t width, uint8_t max_degree, uint8_t grid_degree,
-                                     uint64_t *matrix, size_t matrix_len, uint64_t *right,
-                                     size_t right_len, uint64_t *out, size_t out_len,
-                                     uint64_t *value);
+/* the calls on bytes, and those on tables of u64, with which they are compared */
+#include "../../include/cobra_tables.h"
 
 enum { RECOVER, VALUE, FIT, CALLS };
 

@@ -169,6 +169,60 @@ static void nulls(int call)
     }
 }
 
+/* NULL with length 0 in the calls on tables of u64: what the call says and leaves at `value` */
+static void said(uint32_t expected, uint32_t number, uint64_t value)
+{
+    uint64_t none = 0;
+    check("the number of tables without entries", NULL, &expected, &number, sizeof number);
+    check("the value of tables without entries", NULL, &none, &value, sizeof value);
+}
+
+static void null_tables(void)
+{
+    const uint64_t support[1] = {0}, entry[2] = {1, 1};
+    uint64_t v, room[2] = {7, 7};
+    uint8_t key[20] = {0};
+    uint32_t n;
+    size_t k;
+    for (k = 0; k < 2; k++) { /* without a support and with one */
+        const uint64_t *s = k ? support : NULL;
+        uint32_t cause = k ? COBRA_WRONG_LENGTH : COBRA_EMPTY_SUPPORT;
+        said(cause, cobra_recover_multivar_poly(NULL, 0, s, k, 1, 8, 1, NULL, 0), 0);
+        said(cause, cobra_box_sum(NULL, 0, NULL, 0, s, k, 1, 8, 1, NULL, 0), 0);
+        said(cause, cobra_normalize_polynomial(NULL, 0, s, k, 1, 8, 1, NULL, 0), 0);
+        said(cause, cobra_to_factorial_basis(NULL, 0, s, k, 1, 8, 1, NULL, 0), 0);
+        said(cause, cobra_to_monomial_basis(NULL, 0, s, k, 1, 8, 1, NULL, 0), 0);
+        v = 7;
+        n = cobra_box_value(NULL, 0, s, k, 1, 8, 1, NULL, 0, &v);
+        said(cause, n, v);
+        v = 7;
+        n = cobra_box_is_valid(NULL, 0, s, k, 1, 8, 1, &v);
+        said(cause, n, v);
+        v = 7;
+        n = cobra_box_same(entry, 2, support, 1, 1, 8, 1, NULL, 0, s, k, 1, 8, 1, &v);
+        said(cause, n, v);
+        v = 7;
+        n = cobra_recover_weighted_poly(NULL, 0, NULL, 0, s, k, 1, 8, 1, 1, NULL, 0, NULL, 0, NULL,
+                                        0, &v);
+        said(cause, n, v);
+    }
+    said(COBRA_OK, cobra_recover_singleton_powers(NULL, 0, 0, 8, NULL, 0), 0);
+    said(COBRA_WRONG_LENGTH, cobra_solve_2adic(NULL, 0, NULL, 0, 0, 8, NULL, 0), 0);
+    n = cobra_solve_2adic(NULL, 0, NULL, 0, 2, 8, room, 2);
+    said(COBRA_NO_ANSWER, n, room[0] | room[1]);
+    said(COBRA_WRONG_LENGTH, cobra_solve_2adic_fixed(NULL, 0, NULL, 0, 8, NULL, 0), 0);
+    said(COBRA_WRONG_LENGTH, cobra_stirling_second_kind(0, 8, NULL, 0), 0);
+    said(COBRA_WRONG_LENGTH, cobra_stirling_first_kind(0, 8, NULL, 0), 0);
+    said(COBRA_OK, cobra_key_from_exponents(NULL, 0, 0, key, 20), 0);
+    said(COBRA_OUT_OF_RANGE, cobra_key_from_exponents(NULL, 0, 1, NULL, 0), 0);
+    said(COBRA_OK, cobra_key_to_exponents(key, 20, NULL, 0, 0), 0);
+    said(COBRA_OUT_OF_RANGE, cobra_key_to_exponents(NULL, 0, NULL, 0, 1), 0);
+    said(COBRA_WRONG_LENGTH, cobra_key_with_exponent(NULL, 0, 19, 1), 0);
+    v = 7;
+    n = cobra_key_total_degree(NULL, 0, 20, &v);
+    said(COBRA_WRONG_LENGTH, n, v);
+}
+
 void part_lengths(void)
 {
     int call;
@@ -182,4 +236,5 @@ void part_lengths(void)
         nulls(call);
     }
     matrix();
+    null_tables();
 }
