@@ -66,13 +66,6 @@ static void check_answer(const struct job *job, const struct answer *expected)
     free(got.out);
 }
 
-void check_job(const struct job *job)
-{
-    struct answer expected = expected_of(job);
-    check_answer(job, &expected);
-    free(expected.out);
-}
-
 void check_number(const struct job *job, uint32_t number)
 {
     struct answer expected = expected_of(job);

@@ -39,25 +39,16 @@ struct answer answer_of(const struct job *job); /* lends copies of the tables an
 
 /* expected.c: the paper's order of refusals, and the u64 calls for the rest */
 struct answer expected_of(const struct job *job);
-size_t fit_columns(size_t variables, unsigned degree, unsigned most);
 
 /* check.c: every comparison goes through here; one can be made to see a flipped bit */
 void check(const char *what, const struct job *job, const void *expected, const void *got,
            size_t bytes);
-void check_job(const struct job *job);                  /* the answer is the expected one */
-void check_number(const struct job *job, uint32_t number); /* and has this number */
+void check_number(const struct job *job, uint32_t number); /* the answer is the expected one, with this number */
 void check_at_least(const char *what, unsigned long least, unsigned long got);
-
-/* random.c */
-uint64_t random_next(uint64_t *state);
-uint64_t random_below(uint64_t *state, uint64_t bound);
-struct job random_job(int call, uint64_t *state);
 
 /* the parts */
 void part_refusals(void);
 void part_lengths(void);
-void part_random(unsigned long cases);
-void part_threads(unsigned long cases);
 void part_stack(void);
 
 #endif

@@ -17,7 +17,7 @@ static size_t cells_of(size_t variables, unsigned degree)
 }
 
 /* exponent lists with no exponent above degree and a sum of at most `most` */
-size_t fit_columns(size_t variables, unsigned degree, unsigned most)
+static size_t fit_columns(size_t variables, unsigned degree, unsigned most)
 {
     size_t count = 0;
     unsigned e;

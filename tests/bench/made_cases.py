@@ -1,13 +1,7 @@
-"""Writes the case files cases/NAME.in and NAME.out, and the examples' grids and answers. Expected answers come from reference.py, and an accepted one is
-checked besides by its value at every grid point. The case `document_01` is typed from document 01 and is not written here."""
-import os
-import sys
-
+"""The cases that `run` makes: each refusal, each way of being ill-formed, pairs of causes in their order, the limits; and the grids of the examples, by
+their formulas. An expected answer comes from reference.py, has to be the number that the case is meant for, and, accepted, agrees with every grid point."""
 from reference import (answer, exponents, line_text, number_text, read_head, read_line, read_values, value)
 
-HERE = os.path.dirname(os.path.abspath(__file__))
-CASES = os.path.join(HERE, 'cases')
-EXAMPLES = os.path.join(HERE, '..', '..', 'examples')
 LARGEST = (1 << 64) - 1
 made = {}
 
@@ -261,29 +255,11 @@ def examples():
     }
 
 
-def write(path, data):
-    with open(path, 'wb') as f:
-        f.write(data)
-
-
-def main():
-    refusals()
-    ill_heads()
-    ill_values()
-    orders()
-    limits()
-    rows()
-    for name, (data, out) in made.items():
-        write(os.path.join(CASES, name + '.in'), data)
-        write(os.path.join(CASES, name + '.out'), out)
-    for name, data in examples().items():
-        out = answer(data)
-        if int(out[:21]) == 0:
-            check(name, data, out)
-        write(os.path.join(EXAMPLES, name + '.grid'), data)
-        write(os.path.join(EXAMPLES, name + '.out'), out)
-    print(len(made), 'cases and', len(examples()), 'examples written')
-
-
-if __name__ == '__main__':
-    sys.exit(main())
+def all_cases():
+    """(name, input, expected) of every case."""
+    if not made:
+        for group in (refusals, ill_heads, ill_values, orders, limits, rows):
+            group()
+        for name, data in examples().items():
+            case('example_' + name, data)
+    return [(name, data, out) for name, (data, out) in made.items()]
