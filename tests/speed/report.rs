@@ -21,10 +21,11 @@ pub fn line(row: &Row) -> String {
 pub fn growth(session: &Session) {
     println!("| call, and what grows | | | | | | | | |\n|---|---|---|---|---|---|---|---|---|");
     for series in &session.series {
-        let found = |(shape, width): &(String, u32)| {
-            session.row(series.call, shape, *width).expect("a row that was timed")
-        };
-        let rows: Vec<&Row> = series.inputs.iter().map(found).collect();
+        let found = |(shape, width): &(String, u32)| session.row(series.call, shape, *width);
+        let rows: Vec<&Row> = series.inputs.iter().filter_map(found).collect();
+        if rows.is_empty() {
+            continue;
+        }
         let print = |head: &str, cell: &dyn Fn(&Row) -> String| {
             let mut cells: Vec<String> = rows.iter().map(|&row| cell(row)).collect();
             cells.resize(7.max(cells.len()), String::new());

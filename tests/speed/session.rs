@@ -53,6 +53,8 @@ pub struct Series {
 
 pub struct Session {
     pub quick: bool,
+    /// Calls whose name does not have this in it are left out.
+    pub only: Option<String>,
     pub rows: Vec<Row>,
     pub series: Vec<Series>,
 }
@@ -60,6 +62,9 @@ pub struct Session {
 impl Session {
     /// Times the programs on one input, in seconds of the processor.
     pub fn time(&mut self, input: Input, programs: Programs) {
+        if self.only.as_ref().is_some_and(|only| !input.call.contains(only.as_str())) {
+            return;
+        }
         let Programs { rust, beside, c, ours } = programs;
         let (some_rust, some_beside) = (rust.is_some(), beside.is_some());
         let mut runs = vec![ours, c];

@@ -33,6 +33,7 @@ mod shapes;
 mod singletons;
 mod solvers;
 mod tables;
+mod targets;
 mod transforms;
 
 use crate::session::Session;
@@ -43,16 +44,20 @@ extern "C" {
 }
 
 fn main() {
-    let quick = match std::env::args().skip(1).collect::<Vec<_>>().as_slice() {
-        [] => false,
-        [word] if word == "--quick" => true,
-        _ => {
-            eprintln!("usage: run [--quick] [--record]");
-            exit(2)
+    let (mut quick, mut only) = (false, None);
+    let mut words = std::env::args().skip(1);
+    while let Some(word) = words.next() {
+        match word.as_str() {
+            "--quick" => quick = true,
+            "--only" => only = words.next(),
+            _ => {
+                eprintln!("usage: run [--quick] [--only CALL] [--record]");
+                exit(2)
+            }
         }
-    };
+    }
     unsafe { limit_prepare() };
-    let mut session = Session { quick, rows: Vec::new(), series: Vec::new() };
+    let mut session = Session { quick, only, rows: Vec::new(), series: Vec::new() };
     println!("### All calls\n\n{}", report::HEAD);
     transforms::time(&mut session);
     singletons::time(&mut session);
@@ -65,8 +70,10 @@ fn main() {
     report::reading(&session);
     println!("\n### Growth\n");
     report::growth(&session);
-    println!("\n### Least and greatest ratios of the first table\n");
-    report::extremes(&session);
     println!("\n### What crossing as bytes takes\n");
     report::crossing(&session);
+    println!("\n### Targets\n");
+    targets::table(&session);
+    println!("\n### Ratios\n");
+    report::extremes(&session);
 }

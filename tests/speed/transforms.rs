@@ -70,7 +70,7 @@ impl Call {
 
 pub fn time(session: &mut Session) {
     // the Rust leaves boxes of degree 1 untouched
-    let converted = [&SMALL[2..4], &CELLS_4096, &CELLS_65536[..3]].concat();
+    let converted = [&SMALL[..1], &SMALL[2..4], &CELLS_4096, &CELLS_65536[..3]].concat();
     for call in [Call::ToFactorial, Call::ToMonomial, Call::Normalize] {
         for (shape, listed) in shapes::all(&converted, 3) {
             row(session, call, shape, WIDE, listed);
@@ -81,6 +81,7 @@ pub fn time(session: &mut Session) {
     for (shape, listed) in shapes::all(&recovered, 3) {
         row(session, Call::Recovery, shape, WIDE, listed);
     }
+    low_degree(session);
     shapes::grow(session, Call::Recovery.name(), "k cells d / 2", 3);
     for shape in [CELLS_4096, CELLS_65536].concat() {
         row(session, Call::Recovery, shape, 16, true);
@@ -90,12 +91,25 @@ pub fn time(session: &mut Session) {
     }
 }
 
-fn row(session: &mut Session, call: Call, (k, degree): Shape, width: u32, listed: bool) {
+/// Recovery of a grid whose polynomial has degree 4 in each of two variables, on a grid of degree 255.
+fn low_degree(session: &mut Session) {
+    let exponent = |cell: usize| (cell % 256).max(cell / 256);
+    timed(session, Call::Recovery, (2, 255), WIDE, true, ", low degree", |cell| exponent(cell) <= 4);
+}
+
+fn row(session: &mut Session, call: Call, shape: Shape, width: u32, listed: bool) {
+    timed(session, call, shape, width, listed, "", |_| true);
+}
+
+/// A row whose coefficients are zero but at the cells that are kept.
+fn timed(
+    session: &mut Session, call: Call, (k, degree): Shape, width: u32, listed: bool, note: &str, kept: impl Fn(usize) -> bool,
+) {
     let support: Vec<u64> = (0..k as u64).collect();
     let s = Settings { support: &support, total: k as u32, width, degree };
     let cells = s.cells().expect("a box within the limit") as usize;
     let mut r = Random::new(1, "speed");
-    let input: Vec<u64> = (0..cells).map(|_| r.next()).collect();
+    let input: Vec<u64> = (0..cells).map(|cell| if kept(cell) { r.next() } else { 0 }).collect();
     let input = if call.recovers() {
         on_grid(&input, degree, k, Basis::Falling)
     } else {
@@ -137,7 +151,7 @@ fn row(session: &mut Session, call: Call, (k, degree): Shape, width: u32, listed
     session.time(
         Input {
             call: call.name(),
-            shape: shapes::named((k, degree)),
+            shape: shapes::named((k, degree)) + note,
             size: cells,
             width,
             steps: (k * cells * usize::from(degree) / 2) as u64,
