@@ -25,6 +25,7 @@
  * A table, the support too, crosses as two arguments: a pointer to its bytes, then the number of
  * bytes. It has eight bytes to an entry, the least significant first, on every machine. The bytes
  * may stand at any address. A table without entries has length 0, and its pointer may be NULL.
+ * A little-endian program, as every x86-64 one is, may hand over its uint64_t array as it is.
  * A table that a call writes must not overlap another table of the call, nor *value or
  * *degree_used.
  *
@@ -48,7 +49,9 @@
  *                              whatever degree, has these values
  *   COBRA_NO_ANSWER            fit: the elimination found no answer; there may be one
  *
- * Every input is allowed: whatever the numbers and bytes are, the call returns with its answer.
+ * Every number and every byte is allowed: whatever they are, the call returns with its answer.
+ * Pointers are the caller's part: value and degree_used must not be NULL, nor a table's pointer
+ * with a length above 0; such a call crashes, where it would be turned down too.
  * A degree is 0 to 255. C converts a larger number to uint8_t by cutting it to its low eight
  * bits, before the call sees it: the caller has to look at it first.
  * Tables that a call reads are never altered. Memory outside the tables is never touched.
@@ -58,6 +61,11 @@
  * The calls use the stack and nothing else: no heap, no global state, no file. At most
  * COBRA_RECOVER_STACK, COBRA_VALUE_STACK and COBRA_FIT_STACK bytes of the caller's stack.
  * Any number of threads may call at once; each must have tables of its own to write to.
+ *
+ * LINKING
+ *
+ * A shared object that links the archive gives out all of its names; link it with
+ * -Wl,--exclude-libs,ALL to keep them inside.
  */
 #ifndef COBRA_H
 #define COBRA_H

@@ -62,7 +62,9 @@
  * 6 and 10 leave zeros in the output. After every other refusal all tables are as they were.
  * A call that gives a number writes it to *value, with every refusal 0.
  *
- * Every input is allowed: whatever the numbers and entries are, the call returns with its answer.
+ * Every number and every entry is allowed: whatever they are, the call returns with its answer.
+ * Pointers are the caller's part: value must not be NULL, nor a table's pointer with a length above
+ * 0; such a call crashes, where it would be turned down too.
  * Memory outside the tables and *value is never touched.
  *
  * STACK AND THREADS

@@ -1,4 +1,5 @@
 -- Laws of the loops: of the differences (Passes, TwoPasses), and of the extraction, from a cell to the whole box (the others).
+pub mod CellFactors
 pub mod Passes
 pub mod Cells
 pub mod Rows

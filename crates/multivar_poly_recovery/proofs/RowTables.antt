@@ -18,7 +18,7 @@ use Rattle.meaning.specs.Boxes.{cells, digits}
 use Rattle.meaning.specs.Values.{weight, oddFactor}
 use Rattle.theory.specs.Tables.{at-tabulate}
 use Rattle.theory.specs.Twos.{twos-factorial, legendre}
-use Rattle.theory.specs.Extraction.{cells-last, digits-last, weight-append, inverse-parts}
+use Rattle.multivar_poly_recovery.proofs.CellFactors.{cells-last, digits-last, weight-append, inverse-parts}
 use Rattle.multivar_poly_recovery.specs.Extracted.{Row, Added}
 
 -- the table of inverses

@@ -11,8 +11,8 @@ use Rattle.meaning.specs.Tables.{at}
 use Rattle.meaning.specs.Inverses.{inverse}
 use Rattle.meaning.specs.Boxes.{cells, digits}
 use Rattle.meaning.specs.Values.{weight, oddFactor}
-use Rattle.theory.specs.Extraction.{weight-parts, inverse-parts, divides-cut, coefficient-cut}
-use Rattle.theory.specs.Tested.{Testing, testing-start, testing-step, testing-done, tested-fails}
+use Rattle.multivar_poly_recovery.proofs.CellFactors.{weight-parts, inverse-parts, divides-cut, coefficient-cut}
+use Rattle.multivar_poly_recovery.specs.Tested.{Testing, testing-start, testing-step, testing-done, tested-fails}
 use Rattle.multivar_poly_recovery.specs.declared.extraction.Cell.{Cell}
 use Rattle.multivar_poly_recovery.specs.Extracted.{cellOf, test, number, Extracted, Row}
 

@@ -17,8 +17,8 @@ use Rattle.meaning.specs.Values.{weight, oddFactor}
 use Rattle.meaning.specs.Recovery.{divides, coefficient}
 use Rattle.theory.specs.Parts.{part, put, at-part, length-part, length-put}
 use Rattle.theory.specs.Tables.{at-tabulate}
-use Rattle.theory.specs.Extraction.{cells-last, digits-last, weight-more, inverse-more}
-use Rattle.theory.specs.Tested.{Tested, Testing, tested-cong, testing-start, testing-part, testing-done, tested-part-fails}
+use Rattle.multivar_poly_recovery.proofs.CellFactors.{cells-last, digits-last, weight-more, inverse-more}
+use Rattle.multivar_poly_recovery.specs.Tested.{Tested, Testing, tested-cong, testing-start, testing-part, testing-done, tested-part-fails}
 use Rattle.multivar_poly_recovery.specs.Extracted.{test, number, Extracted}
 use Rattle.multivar_poly_recovery.proofs.RowTables.{Inverses, total-start, total-step}
 

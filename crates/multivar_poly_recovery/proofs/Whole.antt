@@ -14,7 +14,7 @@ use Rattle.meaning.specs.Inverses.{inverse}
 use Rattle.meaning.specs.Recovery.{every, divides, coefficient}
 use Rattle.theory.specs.Congruence.{cong-refl}
 use Rattle.theory.specs.Inverses.{inverse-unique}
-use Rattle.theory.specs.Tested.{Tested, tested-cong, tested-every, tested-tabulate}
+use Rattle.multivar_poly_recovery.specs.Tested.{Tested, tested-cong, tested-every, tested-tabulate}
 use Rattle.multivar_poly_recovery.proofs.SubBoxes.{Promise}
 
 module _ (w : ℕ) (ds t₀ t : List ℕ) (r : Bool) (h : Promise 0 1 w ds t₀ t r) where

@@ -9,7 +9,7 @@ use Rattle.meaning.specs.Boxes.{cells, digits}
 use Rattle.meaning.specs.Inverses.{inverse}
 use Rattle.meaning.specs.Values.{weight, oddFactor}
 use Rattle.meaning.specs.Recovery.{divides, coefficient}
-use Rattle.theory.specs.Tested.{Tested}
+use Rattle.multivar_poly_recovery.specs.Tested.{Tested}
 use Rattle.multivar_poly_recovery.specs.declared.extraction.Cell.{Cell}
 
 -- the coefficient v where the test holds

@@ -5,7 +5,7 @@ ghost use Prim.Native.Nat.{ℕ, _*_, _≤_, _<_};
 ghost use lib.ListN.{length};
 ghost use Rattle.meaning.specs.Tables.{tabulate};
 ghost use Rattle.meaning.specs.Singletons.{singletonNumber, singletonLeft};
-ghost use Rattle.theory.specs.Singletons.{Single, Singles};
+ghost use Rattle.singleton_power_recovery.specs.VariableLines.{Single, Singles};
 ghost use Rattle.answers.specs.Said.{saidNumber};
 use answers::Number;
 use answers::Outcome;

@@ -17,8 +17,6 @@ pub mod OneCell
 pub mod Widths
 pub mod Recovery
 pub mod Every
-pub mod Tested
-pub mod Extraction
 pub mod FlatTables
 pub mod FlatLoops
 pub mod InPlace
@@ -46,7 +44,6 @@ pub mod BoxValues
 pub mod BoxBounds
 pub mod SameLists
 pub mod AcceptedCalls
-pub mod NormalCalls
 pub mod Trailing
 pub mod OneEquation
 pub mod LinearSystems
@@ -55,14 +52,11 @@ pub mod Elimination
 pub mod Echelon
 pub mod StepLaws
 pub mod MatrixTables
-pub mod ShownStates
 pub mod BackSubstitution
 pub mod SolverLaws
 pub mod ColumnOrder
 pub mod Columns
-pub mod ColumnListing
 pub mod ColumnValues
 pub mod FitBoxes
 pub mod FitSizes
 pub mod FitLaws
-pub mod Singletons

@@ -15,7 +15,7 @@ use Rattle.meaning.specs.Inverses.{inverse}
 use Rattle.meaning.specs.Differences.{minus}
 use Rattle.meaning.specs.Elimination.{State, quotient}
 use Rattle.theory.specs.StepLaws.{minus-none, quotient-zero}
-use Rattle.theory.specs.ShownStates.{Shows}
+use Rattle.two_adic_solver.specs.ShownStates.{Shows}
 use Rattle.two_adic_solver.specs.Rows.{Subtracted}
 use Rattle.two_adic_solver.specs.Shown.{clearedRow}
 

@@ -17,7 +17,7 @@ use Rattle.meaning.specs.Inverses.{inverse}
 use Rattle.meaning.specs.Elimination.{State, height, chosen, step}
 use Rattle.theory.specs.Pivots.{Found, Missing, chosen-cases, found-unused, found-twos}
 use Rattle.theory.specs.Elimination.{kept, lessPivot, step-kept, kept-pivot}
-use Rattle.theory.specs.ShownStates.{Shows}
+use Rattle.two_adic_solver.specs.ShownStates.{Shows}
 use Rattle.two_adic_solver.specs.Rows.{Spanned}
 use Rattle.two_adic_solver.specs.Shown.{clearedRow, upTo, Clearing, PivotRow}
 use Rattle.two_adic_solver.proofs.ClearLaws.{decEq, shows-eq, cleared-here, cleared-other}

@@ -19,7 +19,7 @@ use Rattle.theory.specs.Pivots.{Found, Missing, lowest-cases, chosen-cases}
 use Rattle.theory.specs.Elimination.{kept, step-used, step-pivot-same, step-pivot-other, kept-pivot}
 use Rattle.theory.specs.Echelon.{echelon-step}
 use Rattle.theory.specs.StepLaws.{step-missing}
-use Rattle.theory.specs.ShownStates.{Shows}
+use Rattle.two_adic_solver.specs.ShownStates.{Shows}
 use Rattle.two_adic_solver.specs.Rows.{heightOf}
 use Rattle.two_adic_solver.specs.Shown.{Clearing, Shown}
 use Rattle.two_adic_solver.proofs.ClearLaws.{decEq, shows-eq}

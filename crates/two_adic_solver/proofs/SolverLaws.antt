@@ -19,7 +19,7 @@ use Rattle.theory.specs.Every.{every-iff}
 use Rattle.theory.specs.Tables.{length-tabulate, at-tabulate, eq-tabulate, tabulate-cong}
 use Rattle.theory.specs.Echelon.{echelon-start}
 use Rattle.theory.specs.SolverLaws.{system-lt}
-use Rattle.theory.specs.ShownStates.{shown-start, shown-matrix, shown-right}
+use Rattle.two_adic_solver.specs.ShownStates.{shown-start, shown-matrix, shown-right}
 use Rattle.two_adic_solver.specs.Shown.{Shown}
 use Rattle.two_adic_solver.specs.Solved.{Substituted, Ended, Concluded, Finished}
 

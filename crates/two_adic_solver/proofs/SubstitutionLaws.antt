@@ -26,7 +26,7 @@ use Rattle.theory.specs.Every.{every-iff}
 use Rattle.theory.specs.Tables.{length-tabulate, at-tabulate-zero}
 use Rattle.theory.specs.BackSubstitution.{put, backward-eq, backward-step, dividesRest-eq, dividesRest-backward}
 use Rattle.theory.specs.Parts.{part, length-part, at-part}
-use Rattle.theory.specs.ShownStates.{Shows}
+use Rattle.two_adic_solver.specs.ShownStates.{Shows}
 use Rattle.two_adic_solver.specs.Solved.{restOf, Solved, Substituted}
 use Rattle.two_adic_solver.proofs.ClearLaws.{decEq, quotient-told}
 

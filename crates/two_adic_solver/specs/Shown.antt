@@ -11,7 +11,7 @@ use Rattle.meaning.specs.Inverses.{inverse}
 use Rattle.meaning.specs.Elimination.{State, quotient, chosen, step}
 use Rattle.theory.specs.Elimination.{kept}
 use Rattle.theory.specs.Echelon.{Echelon}
-use Rattle.theory.specs.ShownStates.{Shows}
+use Rattle.two_adic_solver.specs.ShownStates.{Shows}
 
 -- row i, unless it is used, less the multiple of row p that clears column c
 unfoldable pub clearedRow : Bool → ℕ → ℕ → ℕ → ℕ → ℕ → State → State

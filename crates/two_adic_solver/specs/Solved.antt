@@ -9,7 +9,7 @@ use Rattle.meaning.specs.Sums.{sum}
 use Rattle.meaning.specs.Differences.{minus}
 use Rattle.meaning.specs.Recovery.{every}
 use Rattle.meaning.specs.Elimination.{State, dividesRest, unknown, substituted, succeeds, eliminated, system}
-use Rattle.theory.specs.ShownStates.{Shows}
+use Rattle.two_adic_solver.specs.ShownStates.{Shows}
 use Rattle.two_adic_solver.specs.Shown.{Shown}
 
 -- what is left of the right side of row p when the columns after c have the values x

@@ -6,7 +6,7 @@ ghost use lib.ListN.{length};
 ghost use Rattle.meaning.specs.Tables.{at};
 ghost use Rattle.meaning.specs.Factorials.{twosIn};
 ghost use Rattle.meaning.specs.Elimination.{State, step, forward};
-ghost use Rattle.theory.specs.ShownStates.{Shows};
+ghost use Rattle.two_adic_solver.specs.ShownStates.{Shows};
 ghost use Rattle.two_adic_solver.specs.Shown.{clearedRow, Clearing, PivotRow, Shown};
 use crate::rows;
 

@@ -6,7 +6,7 @@ ghost use Rattle.meaning.specs.Tables.{tabulate, at};
 ghost use Rattle.meaning.specs.Factorials.{twosIn};
 ghost use Rattle.meaning.specs.Inverses.{inverse};
 ghost use Rattle.meaning.specs.Elimination.{State, joined, lowest, step, forward};
-ghost use Rattle.theory.specs.ShownStates.{Shows};
+ghost use Rattle.two_adic_solver.specs.ShownStates.{Shows};
 ghost use Rattle.two_adic_solver.specs.Fixed.{Square};
 ghost use Rattle.two_adic_solver.specs.Rows.{Subtracted, heightOf};
 ghost use Rattle.two_adic_solver.specs.Shown.{clearedRow, Clearing, Shown};

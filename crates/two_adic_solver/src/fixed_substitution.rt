@@ -5,7 +5,7 @@ ghost use lib.ListN.{length};
 ghost use Rattle.meaning.specs.Tables.{at};
 ghost use Rattle.meaning.specs.Factorials.{twosIn};
 ghost use Rattle.meaning.specs.Elimination.{State, joined};
-ghost use Rattle.theory.specs.ShownStates.{Shows};
+ghost use Rattle.two_adic_solver.specs.ShownStates.{Shows};
 ghost use Rattle.two_adic_solver.specs.Fixed.{Square};
 ghost use Rattle.two_adic_solver.specs.Solved.{restOf, Solved, Substituted};
 use crate::rows;

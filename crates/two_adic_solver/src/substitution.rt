@@ -9,7 +9,7 @@ ghost use Rattle.meaning.specs.Sums.{sum};
 ghost use Rattle.meaning.specs.Recovery.{every};
 ghost use Rattle.meaning.specs.Factorials.{twosIn};
 ghost use Rattle.meaning.specs.Elimination.{State};
-ghost use Rattle.theory.specs.ShownStates.{Shows};
+ghost use Rattle.two_adic_solver.specs.ShownStates.{Shows};
 ghost use Rattle.two_adic_solver.specs.Solved.{restOf, Solved, Substituted};
 use crate::rows;
 

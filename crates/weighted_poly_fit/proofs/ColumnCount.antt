@@ -15,7 +15,7 @@ use Rattle.meaning.specs.Sums.{sum}
 use Rattle.meaning.specs.Boxes.{cells, digits}
 use Rattle.meaning.specs.Fit.{total, before, insert, columnsTo, columns}
 use Rattle.theory.specs.Sums.{sum-last, sum-eq, sum-add, sum-le}
-use Rattle.theory.specs.ColumnListing.{blocks, exactly, byDegree, byDegree-eq}
+use Rattle.weighted_poly_fit.specs.ColumnListing.{blocks, exactly, byDegree, byDegree-eq}
 
 length-insert : (es : List ℕ) (fs : List (List ℕ)) → length (insert es fs) ≡ suc (length fs)
 unfolding insert

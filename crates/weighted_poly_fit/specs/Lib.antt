@@ -1,5 +1,6 @@
--- The words of the contracts: the listing of the columns, tables of falling factorials, the parts of the fit, its sizes, and what holds of an accepted fit
+-- The words of the contracts: the listing of the columns (Listing, with its laws in ColumnListing), tables of falling factorials, the parts of the fit, its sizes, and what holds of an accepted fit
 -- (Fits, with its law in FitsLaws).
+pub mod ColumnListing
 pub mod Listing
 pub mod Powers
 pub mod Fitting

@@ -10,7 +10,7 @@ use Rattle.demand3.specs.Also.{also₂}
 use Rattle.demand3.specs.BoxCalls.{normalised}
 use Rattle.answers.specs.Said.{saidNumber}
 use Rattle.answers.specs.Laws.{left-code}
-use Rattle.theory.specs.NormalCalls.{reduce-accepted, reduce-normal}
+use Rattle.poly_normalizer.proofs.NormalCalls.{reduce-accepted, reduce-normal}
 use Rattle.poly_normalizer.proofs.normalize_polynomial.Statement.{statement}
 use Rattle.poly_normalizer.proofs.normalize_polynomial.Tie as tie
 

@@ -3,7 +3,7 @@ use borrow.Author.Needs.{needs}
 use mathlib.Core.Path.{sym, _∙_, ap}
 use Prim.Native.Nat.{pred}
 use denote.Ref.{now}
-use Rattle.theory.specs.Singletons.{single-accepted, single-refused}
+use Rattle.singleton_power_recovery.specs.VariableLines.{single-accepted, single-refused}
 use Rattle.answers.specs.Said.{code, saidNumber}
 use Rattle.answers.specs.Laws.{code-suc}
 use Rattle.singleton_power_recovery.proofs.recover_line.Statement.{statement}

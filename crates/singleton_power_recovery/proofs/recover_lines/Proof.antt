@@ -3,7 +3,7 @@ use Rattle.singleton_power_recovery.proofs.recover_lines.Statement.{sta
 use mathlib.Core.Path.{sym, _∙_, subst}
 use mathlib.Core.Bool.{Bool}
 use Rattle.theory.specs.Parts.{part, length-part, length-put}
-use Rattle.theory.specs.Singletons.{Single, Lines, lines-start, lines-step, lines-fail, lines-done}
+use Rattle.singleton_power_recovery.specs.VariableLines.{Single, Lines, lines-start, lines-step, lines-fail, lines-done}
 use borrow.Author.Needs.{needs}
 use borrow.Author.Tests.{not-true, not-false}
 use Prim.Native.Nat.{_+_, _-_, _≤_, zero-le}

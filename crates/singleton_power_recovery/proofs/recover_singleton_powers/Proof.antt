@@ -8,7 +8,7 @@ use native.Mathlib.Omega.{arith}
 use denote.Ref.{now}
 use Rattle.meaning.specs.Tables.{tabulate}
 use Rattle.meaning.specs.Singletons.{singletonSettings}
-use Rattle.theory.specs.Singletons.{too-many, bad-width, wrong-given, wrong-out, settings-pass, settings-number, settings-left, singles-number, singles-left}
+use Rattle.singleton_power_recovery.specs.VariableLines.{too-many, bad-width, wrong-given, wrong-out, settings-pass, settings-number, settings-left, singles-number, singles-left}
 use Rattle.singleton_power_recovery.proofs.Caps.{Capped, capped, uncapped, capped-low, capped-high, capped-long, capped-short, capped-count}
 use Rattle.singleton_power_recovery.proofs.recover_singleton_powers.Statement.{statement}
 use Rattle.singleton_power_recovery.proofs.recover_singleton_powers.Tie as tie

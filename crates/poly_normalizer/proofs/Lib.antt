@@ -1,0 +1,2 @@
+-- The one module
+pub mod NormalCalls
