@@ -8,17 +8,16 @@ ghost use Rattle.meaning.specs.Conversions.{fallingBox, powerBox};
 ghost use Rattle.demand3.specs.Settings.{ConvertPasses};
 ghost use Rattle.demand3.specs.Promises.{ToFalling, ToPowers};
 ghost use Rattle.answers.specs.Said.{saidNumber};
-ghost use Rattle.basis_transform.specs.Directions.{boxOf};
+ghost use Rattle.lines.specs.Transforms.{boxOf};
 
 mod boxes;
-mod convert;
 
 use answers::Outcome;
-use convert::Direction;
+use lines::Transform;
 
-// A conversion in either direction, or its refusal.
+// A conversion, or its refusal.
 fn transform_basis(
-    direction: Direction,
+    transform: Transform,
     coeffs: &[u64],
     support: &[u64],
     total: u32,
@@ -30,13 +29,13 @@ fn transform_basis(
         (now (coeffs .entry)) (now (out .entry)) ⌝ }
     ensures leaves { λ r. ⌜ now (out .exit) ≡ convertLeft total bitwidth (now (support .entry)) (cube (now (support .entry)) «max_degree»)
         (now (coeffs .entry)) (now (out .entry))
-        (boxOf direction (2 ^ bitwidth) (cube (now (support .entry)) «max_degree») (now (coeffs .entry))) ⌝ }
+        (boxOf transform (2 ^ bitwidth) (cube (now (support .entry)) «max_degree») (now (coeffs .entry))) ⌝ }
 {
     match poly::check_tables(false, support, total, bitwidth, max_degree, coeffs, out) {
         Outcome::Refused(refusal) => Outcome::Refused(refusal),
         Outcome::Accepted => {
             let degrees = [max_degree; 20];
-            boxes::convert_box(direction, bitwidth, &degrees[..support.len()], coeffs, out);
+            boxes::convert_box(transform, bitwidth, &degrees[..support.len()], coeffs, out);
             Outcome::Accepted
         }
     }
@@ -63,7 +62,7 @@ pub fn to_factorial_basis(
         bitwidth (cube (now (support .entry)) «max_degree») (now (coeffs .entry)) (saidNumber r) (now (out .exit)) ⌝ }
 {
     transform_basis(
-        Direction::ToFactorial,
+        Transform::ToFalling,
         coeffs,
         support,
         total,
@@ -92,7 +91,7 @@ pub fn to_monomial_basis(
         bitwidth (cube (now (support .entry)) «max_degree») (now (coeffs .entry)) (saidNumber r) (now (out .exit)) ⌝ }
 {
     transform_basis(
-        Direction::ToMonomial,
+        Transform::ToPowers,
         coeffs,
         support,
         total,

@@ -1,10 +1,9 @@
--- Laws of the loops: of the differences (Passes, TwoPasses), and of the extraction, from a cell to the whole box (the others).
+-- Laws of the extraction, from a cell to the whole box, and of recovery's steps on a table (WordDifferences).
 pub mod CellFactors
-pub mod Passes
 pub mod Cells
 pub mod Rows
 pub mod Added
 pub mod RowTables
 pub mod SubBoxes
 pub mod Whole
-pub mod TwoPasses
+pub mod WordDifferences

@@ -9,10 +9,10 @@ ghost use Rattle.meaning.specs.Recovery.{accepts, answer};
 ghost use Rattle.meaning.specs.Settings.{cube};
 ghost use Rattle.meaning.specs.Calls.{recoveryNumber, recoveryLeft};
 ghost use Rattle.answers.specs.Said.{saidNumber};
-use crate::differences;
 use crate::extraction;
 use answers::Outcome;
 use answers::Refusal;
+use lines::Transform;
 
 // The coefficients of the box of `degrees`, or 6 and zeros.
 fn recover_from_grid(values: &[u64], degrees: &[u8], bitwidth: u32, out: &mut [u64]) -> Outcome
@@ -22,7 +22,7 @@ fn recover_from_grid(values: &[u64], degrees: &[u8], bitwidth: u32, out: &mut [u
         (answer bitwidth (now (degrees .entry)) (now (values .entry))) (tabulate (cells (now (degrees .entry))) (λ n. 0)) ⌝ }
 {
     tables::copy(values, out);
-    differences::difference_all(out, degrees);
+    lines::transform_all(Transform::Differences, out, degrees);
     let inverses = math_utils::tables::odd_factorial_inverses();
     if extraction::extract(out, degrees, bitwidth, &inverses) {
         return Outcome::Accepted;

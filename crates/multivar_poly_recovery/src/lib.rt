@@ -6,7 +6,6 @@ ghost use Rattle.demand3.specs.Settings.{Passing};
 ghost use Rattle.demand3.specs.Promises.{Decides};
 ghost use Rattle.answers.specs.Said.{saidNumber};
 
-mod differences;
 mod extraction;
 mod grid;
 

@@ -1,12 +1,10 @@
 -- Laws of the conversions of a coefficient box: conversions modulo a multiple of n are, modulo n, those modulo n; the two undo one another; and
 -- neither changes a value, nor does the normal form. Both are transforms by a matrix of Stirling numbers.
 use mathlib.Core.Path.{_≡_, sym, ap, _∙_}
-use Prim.Native.Nat.{ℕ, suc, _+_, _*_, _-_, _%_, _^_, _≤_, _<_}
+use Prim.Native.Nat.{ℕ, suc, _*_, _%_, _^_, _<_}
 use native.Mathlib.Nat.{mod-lt, mul-comm}
-use native.Mathlib.Omega.{arith}
 use mathlib.Core.List.{List}
 use lib.ListN.{length}
-use lib.Pow.{pow-pos, pow-add}
 use Rattle.meaning.specs.Tables.{tabulate, at}
 use Rattle.meaning.specs.Factorials.{falling}
 use Rattle.meaning.specs.Boxes.{cells, digits, along}
@@ -44,23 +42,6 @@ module _ (n k : ℕ) (p : 0 < n) (ds c : List ℕ) where
   pub powerBox-of-mul : 0 < k → tabulate (cells ds) (λ i. along (powerLine (n * k)) ds (entry ds c) (digits ds i) % n) ≡ powerBox n ds c
   unfolding powerBox powerLine
   powerBox-of-mul q = matrixBox-of-mul n k (toPower (n * k)) (toPower n) (λ j e. residue-of-mul n k (stirling1 e j) p q) ds c p
-
--- a box converted modulo 2^64 and then cut to width w
-module _ (w : ℕ) (h : w ≤ 64) (ds c : List ℕ) where
-  word : 2 ^ 64 ≡ 2 ^ w * 2 ^ (64 - w)
-  word =
-      let e : 64 ≡ w + (64 - w) = omega arith in
-      ap (2 ^_) e ∙ pow-add 2 w (64 - w)
-
-  pub fallingBox-of-word : tabulate (cells ds) (λ i. along (fallingLine (2 ^ 64)) ds (entry ds c) (digits ds i) % 2 ^ w) ≡ fallingBox (2 ^ w) ds c
-  fallingBox-of-word =
-      ap (λ m. tabulate (cells ds) (λ i. along (fallingLine m) ds (entry ds c) (digits ds i) % 2 ^ w)) word
-      ∙ fallingBox-of-mul (2 ^ w) (2 ^ (64 - w)) (pow-pos w) ds c
-
-  pub powerBox-of-word : tabulate (cells ds) (λ i. along (powerLine (2 ^ 64)) ds (entry ds c) (digits ds i) % 2 ^ w) ≡ powerBox (2 ^ w) ds c
-  powerBox-of-word =
-      ap (λ m. tabulate (cells ds) (λ i. along (powerLine m) ds (entry ds c) (digits ds i) % 2 ^ w)) word
-      ∙ powerBox-of-mul (2 ^ w) (2 ^ (64 - w)) (pow-pos w) ds c (pow-pos (64 - w))
 
 -- ---- the conversions undo one another
 

@@ -15,7 +15,7 @@ use Rattle.theory.specs.Congruence.{Cong}
 use Rattle.theory.specs.Tables.{tabulate-cong}
 use Rattle.theory.specs.Every.{every-iff}
 use Rattle.theory.specs.Widths.{widthCell, divides-iff, Divided, divides-cases, coefficient-eq}
-use Rattle.theory.specs.WordDifferences.{difference-lt}
+use Rattle.theory.specs.DifferenceBounds.{difference-lt}
 use Rattle.theory.specs.GridRecovery.{Passes, solutions, solutionAt, solutions-bounded, solutions-agree, passes-of-agrees}
 use Rattle.theory.specs.GridRecovery.{bounded-unique, agrees-same, bounded-eq-of-values, value-cong-bounds, value-boxTotal}
 

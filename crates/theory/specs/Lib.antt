@@ -17,14 +17,10 @@ pub mod OneCell
 pub mod Widths
 pub mod Recovery
 pub mod Every
-pub mod FlatTables
-pub mod FlatLoops
-pub mod InPlace
 pub mod Integers
 pub mod StirlingNumbers
-pub mod Conversions
-pub mod SyntheticDivision
 pub mod Values
+pub mod DifferenceBounds
 pub mod GridRecovery
 pub mod DemandThree
 pub mod BoxConversions
@@ -35,7 +31,6 @@ pub mod CutPolynomials
 pub mod DecidingGrids
 pub mod OpenGrids
 pub mod ConversionLaws
-pub mod WordDifferences
 pub mod Indices
 pub mod Settings
 pub mod LastVariable

@@ -13,14 +13,13 @@ use Rattle.meaning.specs.Differences.{grid}
 use Rattle.theory.specs.Congruence.{Cong, cong-of-eq, cong-sym, cong-trans, cong-of-mul, mod-cong, eq-of-cong}
 use Rattle.theory.specs.Tables.{tabulate-cong, length-tabulate, at-tabulate}
 use Rattle.theory.specs.Boxes.{digits-within, cell-digits}
-use Rattle.theory.specs.FlatTables.{Line}
 use Rattle.theory.specs.StirlingNumbers.{delta, sum-delta}
 use Rattle.theory.specs.Evaluation.{eval, eval-nil, eval-cons, eval-cong, eval-cong-function, eval-change, each-of-all}
 use Rattle.theory.specs.Values.{entry, entry-tabulate}
 use Rattle.theory.specs.BoxConversions.{along-cong-eval}
 
 -- the transform of a line by the matrix t
-abbrev pub matrixLine : (ℕ → ℕ → ℕ) → ℕ → Line
+abbrev pub matrixLine : (ℕ → ℕ → ℕ) → ℕ → ℕ → (ℕ → ℕ) → ℕ → ℕ
 matrixLine t m d c j = sum (suc d) (λ e. t j e * c e) % m
 
 -- the transform of a box

@@ -7,15 +7,15 @@ use denote.Ref.{now}
 use Rattle.meaning.specs.Tables.{tabulate}
 use Rattle.meaning.specs.Boxes.{cells}
 use Rattle.meaning.specs.Recovery.{accepts, answer}
-use Rattle.theory.specs.WordDifferences.{recovered-of-steps}
+use Rattle.multivar_poly_recovery.proofs.WordDifferences.{recovered-of-steps}
 use Rattle.multivar_poly_recovery.proofs.grid.recover_from_grid.Statement.{statement}
 use Rattle.multivar_poly_recovery.proofs.grid.recover_from_grid.Tie as tie
 
 copy-requires : tie.Need-copy-requires
 copy-requires c κs = search needs
 
-difference-all-requires : tie.Need-difference-all-requires
-difference-all-requires c κs = search needs
+transform-all-requires : tie.Need-transform-all-requires
+transform-all-requires c κs = search needs
 
 odd-factorial-inverses-requires : tie.Need-odd-factorial-inverses-requires
 odd-factorial-inverses-requires c κs = search needs
@@ -40,7 +40,7 @@ steps c =
     let b = y .before .before .before .before .before in
     let p = b .pre in
     recovered-of-steps (b .args .bitwidth) (now (b .args .degrees)) (now (b .args .values)) _ _ _ _ (p .2) (p .0)
-    (y .copy .ensures ∙ simp (eq-eqb _ _ (p .0 ∙ sym (p .1)))) (d .difference-all .ensures) (x .extract .ensures .0) (x .extract .ensures .1)
+    (y .copy .ensures ∙ simp (eq-eqb _ _ (p .0 ∙ sym (p .1)))) (d .transform-all .ensures) (x .extract .ensures .0) (x .extract .ensures .1)
 
 returns : tie.Need-returns
 returns c =
@@ -60,7 +60,7 @@ recover-from-grid-spec =
     tie.close
     (tie.spec
     copy-requires
-    difference-all-requires
+    transform-all-requires
     odd-factorial-inverses-requires
     extract-requires
     same-length

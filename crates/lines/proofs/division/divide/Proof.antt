@@ -1,0 +1,55 @@
+-- The loop goes down: from place i on the pass is done, below i not yet, for whatever coefficients f the block was passed from; the measure is i.
+-- It ends at index done + 1, below which a pass changes nothing.
+use borrow.Author.Needs.{needs}
+use mathlib.Core.Path.{_≡_, refl}
+use native.Mathlib.Omega.{arith}
+use native.Mathlib.Nat.{mul-le-mul-left}
+use Prim.Native.Nat.{ℕ, _+_, _-_, _*_, _^_, _≤_}
+use lib.ListN.{length, length-set}
+use Rattle.lines.specs.SyntheticDivision.{Divided, Dividing, divide-start, divide-step, divide-done}
+use Rattle.lines.proofs.DivisionPasses.{sum-of-product}
+use Rattle.lines.proofs.division.divide.Statement.{statement}
+use Rattle.lines.proofs.division.divide.Tie as tie
+
+abbrev Inv-loop : tie.InvT-loop
+Inv-loop part₀ stride degree done factor end i₀ part i =
+    (length part ≡ length part₀)
+    × (i ≤ stride * degree)
+    × ((f : ℕ → ℕ) → Divided (2 ^ 64) stride degree f (length part₀) done part₀ → Dividing (2 ^ 64) stride degree f (length part₀) done i part)
+
+abbrev μ-loop : tie.MeasureT-loop
+μ-loop part₀ stride degree done factor end i₀ part i = i
+
+-- the function's start, from the loop's head
+abbrev start : tie.At-loop Inv-loop μ-loop → tie.Start Inv-loop μ-loop
+start l = l .before .before
+
+pub divide-spec : {M : Type 1} → statement M
+divide-spec =
+    tie.close
+    (tie.spec
+    Inv-loop
+    μ-loop
+    (λ c. search needs) (λ c. search needs)
+    (λ c.
+    let k = c .before .args in
+    let h : k .done + 1 ≤ k .degree = omega arith in
+    record { fits = omega (arith, mul-le-mul-left (k .stride) h) })
+    (λ c. search needs)
+    (λ c.
+    let s = c .before in
+    let k = s .args in
+    let e : length (k .part .now) - k .stride ≡ k .stride * k .degree = omega arith in
+    (refl, omega arith, λ f r. rw e (divide-start (s .pre .0) (s .pre .2) r)))
+    (λ c. search needs) (λ c. search needs) (λ c. search needs) (λ c. search needs) (λ c. search needs) (λ c. search needs) (λ c κs. search needs)
+    (λ c κs. search needs) (λ c. search needs) (λ c. search needs) (λ c. search needs)
+    (λ c.
+    let l = c .before .before .before .before .before in
+    let s = start l in
+    let number = sum-of-product _ (s .args .done) _ _ (c .before .wrapping-mul .ensures) (c .wrapping-add-u64 .ensures) in (
+      simp length-set (l .loop .inv .0),
+      omega arith,
+      λ f r. divide-step (s .pre .0) (s .pre .2) (omega arith) (omega arith) (l .loop .inv .2 f r) _ number,
+    ))
+    (λ c. search needs)
+    (λ c. let s = start (c .before) in λ f r. divide-done (s .pre .0) (s .pre .2) (omega arith) (c .before .loop .inv .2 f r)))

@@ -1,0 +1,55 @@
+-- The loop goes up from index done + 1: before place i the pass is undone, from i on not yet, for whatever coefficients f; the measure is the places
+-- left. It ends below the highest index, which a pass does not change.
+use borrow.Author.Needs.{needs}
+use mathlib.Core.Path.{_≡_, refl}
+use native.Mathlib.Omega.{arith}
+use native.Mathlib.Nat.{mul-le-mul-left}
+use Prim.Native.Nat.{ℕ, suc, _+_, _-_, _*_, _^_, _≤_}
+use lib.ListN.{length, length-set}
+use lib.Pow.{pow-pos}
+use Rattle.lines.specs.SyntheticDivision.{Divided, Dividing, undivide-start, undivide-step, undivide-done}
+use Rattle.lines.proofs.DivisionPasses.{difference-of-product}
+use Rattle.lines.proofs.division.undivide.Statement.{statement}
+use Rattle.lines.proofs.division.undivide.Tie as tie
+
+abbrev Inv-loop : tie.InvT-loop
+Inv-loop part₀ stride degree done factor end i₀ part i =
+    (length part ≡ length part₀)
+    × (stride * suc done ≤ i)
+    × ((f : ℕ → ℕ) → Divided (2 ^ 64) stride degree f (length part₀) (suc done) part₀ → Dividing (2 ^ 64) stride degree f (length part₀) done i part)
+
+abbrev μ-loop : tie.MeasureT-loop
+μ-loop part₀ stride degree done factor end i₀ part i = end - i
+
+-- the function's start, from the loop's head
+abbrev start : tie.At-loop Inv-loop μ-loop → tie.Start Inv-loop μ-loop
+start l = l .before .before
+
+pub undivide-spec : {M : Type 1} → statement M
+undivide-spec =
+    tie.close
+    (tie.spec
+    Inv-loop
+    μ-loop
+    (λ c. search needs) (λ c. search needs) (λ c. search needs)
+    (λ c.
+    let k = c .before .args in
+    let h : k .done + 1 ≤ k .degree = omega arith in
+    record { fits = omega (arith, mul-le-mul-left (k .stride) h) })
+    (λ c.
+    let s = c .before in
+    let k = s .args in
+    let e : k .stride * (k .done + 1) ≡ k .stride * suc (k .done) = omega arith in
+    (refl, omega arith, λ f r. rw e (undivide-start (s .pre .0) (s .pre .2) r)))
+    (λ c. search needs) (λ c. search needs) (λ c. search needs) (λ c. search needs) (λ c. search needs) (λ c κs. search needs) (λ c κs. search needs)
+    (λ c. search needs) (λ c. search needs) (λ c. search needs) (λ c. search needs)
+    (λ c.
+    let l = c .before .before .before .before .before in
+    let s = start l in
+    let number = difference-of-product _ (s .args .done) _ _ (pow-pos 64) (c .before .wrapping-mul .ensures) (c .wrapping-sub .ensures) in (
+      simp length-set (l .loop .inv .0),
+      omega arith,
+      λ f r. undivide-step (s .pre .0) (s .pre .2) (pow-pos 64) (omega arith) (omega arith) (l .loop .inv .2 f r) _ number,
+    ))
+    (λ c. search needs)
+    (λ c. let s = start (c .before) in λ f r. undivide-done (s .pre .0) (s .pre .2) (omega arith) (c .before .loop .inv .2 f r)))
