@@ -1,6 +1,8 @@
 -- The two Stirling tables under one name.
 use Prim.Native.Nat.{ℕ, _+_, _*_, _-_, _/_, _%_, _^_}
 use mathlib.Core.List.{List}
+use mathlib.Core.Path.{_≡_}
+use Rattle.meaning.specs.Tables.{at}
 use Rattle.meaning.specs.Differences.{minus}
 use Rattle.meaning.specs.Integers.{residue}
 use Rattle.meaning.specs.Stirling.{stirling1, stirling2}
@@ -20,3 +22,7 @@ next Kind.Second w i j above left = ((j * above) % 2 ^ w + left) % 2 ^ w
 abbrev pub table : Kind → ℕ → ℕ → List ℕ
 table Kind.First n w = stirling1Table n w
 table Kind.Second n w = stirling2Table n w
+
+-- a table whose entries are all 0
+abbrev pub Zeros : List ℕ → Type 0
+Zeros t = (c : ℕ) → at t c ≡ 0

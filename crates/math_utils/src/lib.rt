@@ -8,8 +8,8 @@ ghost use Rattle.meaning.specs.Differences.{minus};
 ghost use Rattle.answers.specs.Said.{said};
 ghost use Rattle.math_utils.specs.Precision.{precision};
 
+pub mod odd_factors;
 pub mod stirling;
-pub mod tables;
 
 use answers::Number;
 use answers::Refusal;
@@ -86,7 +86,7 @@ pub fn odd_part_factorial(k: u32, bitwidth: u32) -> Number
     if 64 < bitwidth {
         return Number::Refused(Refusal::OutOfRange);
     }
-    let table = tables::odd_factorials();
+    let table = odd_factors::odd_factorials();
     Number::Value(table[k as usize] & arith::bitmask(bitwidth))
 }
 

@@ -1,11 +1,13 @@
-// Tables of Stirling numbers modulo 2^w, filled cell by cell: a table of degree n has n + 1 rows of n + 1 entries, row after row.
+// Tables of Stirling numbers modulo 2^w, filled row by row: a table of degree n has n + 1 rows of n + 1 entries.
 ghost use mathlib.Core.Path.{_≡_};
-ghost use Prim.Native.Nat.{ℕ, _*_, _≤_, _<_};
+ghost use Prim.Native.Nat.{ℕ, _+_, _*_, _≤_, _<_};
+ghost use mathlib.Core.List.{List};
 ghost use lib.ListN.{length};
-ghost use Rattle.meaning.specs.Tables.{tabulate, at};
+ghost use Rattle.meaning.specs.Tables.{tabulate};
 ghost use Rattle.meaning.specs.Leaves.{stirling1Table, stirling2Table, stirlingNumber, stirlingLeft};
 ghost use Rattle.answers.specs.Said.{saidNumber};
-ghost use Rattle.math_utils.specs.Kinds.{entry, next, table};
+ghost use Rattle.theory.specs.Tables.{Filled};
+ghost use Rattle.math_utils.specs.Kinds.{entry, next, table, Zeros};
 use answers::Outcome;
 use answers::Refusal;
 
@@ -26,43 +28,41 @@ fn next_entry(kind: Kind, i: u64, j: u64, above: u64, left: u64, bitwidth: u32) 
     }
 }
 
-// The entry at a cell, where the cells before it are filled.
-fn entry_at(kind: Kind, table: &[u64], side: usize, cell: usize, bitwidth: u32) -> u64
-    requires { ⌜ (1 ≤ side) × (cell < length (now table)) × (bitwidth ≤ 64) ⌝ }
-    requires { ⌜ 1 ≤ bitwidth ⌝ }
-    requires { ⌜ ((k : ℕ) → k < cell → at (now table) k ≡ entry kind bitwidth side k) ⌝ }
-    ensures { λ r. ⌜ r ≡ entry kind bitwidth side cell ⌝ }
+// Row i, which is zero, from the row before it, which begins at `from`. Above the diagonal it stays zero.
+fn fill_row(kind: Kind, table: &mut [u64], side: usize, from: usize, i: usize, bitwidth: u32)
+    requires { ⌜ (0 < i) × (i < side) × (from + side + side ≤ length (now table)) × (from + side ≡ i * side) ⌝ }
+    requires { ⌜ bitwidth ≤ 64 ⌝ }
+    ensures { λ r. ⌜ ((t : List ℕ) → Zeros t → Filled (entry kind bitwidth side) t (now (table .entry)) (i * side)
+        → Filled (entry kind bitwidth side) t (now (table .exit)) (i * side + side)) ⌝ }
 {
-    let i = cell / side;
-    let j = cell % side;
-    if j == 0 {
-        if i == 0 {
-            return 1;
-        }
-        return 0;
+    let mut j = 1;
+    while j <= i {
+        let next = next_entry(
+            kind,
+            i as u64,
+            j as u64,
+            table[from + j],
+            table[from + j - 1],
+            bitwidth,
+        );
+        table[from + side + j] = next;
+        j += 1;
     }
-    if i == 0 {
-        return 0;
-    }
-    next_entry(
-        kind,
-        i as u64,
-        j as u64,
-        table[cell - side],
-        table[cell - side - 1],
-        bitwidth,
-    )
 }
 
-// Fills the whole table.
+// Fills the whole table, row by row.
 fn fill(kind: Kind, table: &mut [u64], side: usize, bitwidth: u32)
-    requires { ⌜ (1 ≤ side) × (1 ≤ bitwidth) × (bitwidth ≤ 64) ⌝ }
+    requires { ⌜ (0 < side) × (side ≤ 256) × (length (now table) ≡ side * side) × (1 ≤ bitwidth) × (bitwidth ≤ 64) ⌝ }
     ensures { λ r. ⌜ now (table .exit) ≡ tabulate (length (now (table .entry))) (entry kind bitwidth side) ⌝ }
 {
-    let mut cell = 0;
-    while cell < table.len() {
-        table[cell] = entry_at(kind, table, side, cell, bitwidth);
-        cell += 1;
+    tables::clear(table);
+    table[0] = 1;
+    let mut from = 0;
+    let mut i = 1;
+    while i < side {
+        fill_row(kind, table, side, from, i, bitwidth);
+        from += side;
+        i += 1;
     }
 }
 

@@ -23,7 +23,7 @@ fn recover_from_grid(values: &[u64], degrees: &[u8], bitwidth: u32, out: &mut [u
 {
     tables::copy(values, out);
     lines::transform_all(Transform::Differences, out, degrees);
-    let inverses = math_utils::tables::odd_factorial_inverses();
+    let inverses = math_utils::odd_factors::odd_factorial_inverses();
     if extraction::extract(out, degrees, bitwidth, &inverses) {
         return Outcome::Accepted;
     }
