@@ -38,8 +38,6 @@ pub mod DecidingGrids
 pub mod OpenGrids
 pub mod ConversionLaws
 pub mod WordDifferences
-pub mod Indices
-pub mod Settings
 pub mod LastVariable
 pub mod Walks
 pub mod BoxValues
