@@ -31,7 +31,7 @@ fn transform_basis(
         (now (coeffs .entry)) (now (out .entry))
         (boxOf transform (2 ^ bitwidth) (cube (now (support .entry)) «max_degree») (now (coeffs .entry))) ⌝ }
 {
-    match poly::check_tables(false, support, total, bitwidth, max_degree, coeffs, out) {
+    match settings::check_tables(false, support, total, bitwidth, max_degree, coeffs, out) {
         Outcome::Refused(refusal) => Outcome::Refused(refusal),
         Outcome::Accepted => {
             let degrees = [max_degree; 20];

@@ -6,22 +6,19 @@ use mathlib.Core.Logic.{⊎-elim}
 use Prim.Native.Nat.{ℕ, zero, suc, _+_, _≤_, _<_, min}
 use native.Mathlib.Nat.{suc-ne-zero}
 use native.Mathlib.Omega.{arith}
-use borrow.Author.Tests.{lt-ltb, le-ltb, ltb-false, eq-eqb, ne-eqb}
-use lib.Dec.{ltb, eqb}
+use borrow.Author.Tests.{eq-eqb, ne-eqb}
+use lib.Dec.{eqb}
 use lib.ListN.{length, take, drop}
 use lib.Seq.{sets, sets-eq, take-at, length-take-le}
 use Rattle.meaning.specs.Tables.{tabulate}
 use Rattle.meaning.specs.Boxes.{cells}
-use Rattle.meaning.specs.Replies.{Reply, accepted, refused, told, between}
-use Rattle.meaning.specs.Settings.{cube, settingsNumber, callNumber, first}
+use Rattle.meaning.specs.Replies.{Reply, told}
+use Rattle.meaning.specs.Settings.{tableLimit, byteLimit, widthFits, cube, settingsNumber, limitedNumber, callNumber, first}
 use Rattle.meaning.specs.Recovery.{accepts, answer}
 use Rattle.meaning.specs.Calls.{reply, left, inOutNumber, recoveryNumber, recoveryLeft}
-use Rattle.theory.specs.Settings.{passes, first-zero}
-use Rattle.theory.specs.AcceptedCalls.{width-high}
-use Rattle.answers.specs.Said.{code}
 use Rattle.theory.specs.AcceptedCalls.{number-reply}
-use Rattle.answers.specs.Laws.{reply-code, first-code}
-use Rattle.answers.specs.declared.Refusal.{Refusal}
+use Rattle.settings.specs.Causes.{passes, passes-higher, settings-cells-le}
+use Rattle.theory.specs.Ranges.{width-high}
 use Rattle.bench_file.specs.Layout.{Head, ill-head, ill-values, whole, degreesOf, headNumber, benchNumber, acceptedText, refusedText, benchText}
 use Rattle.bench_file.specs.Verdict.{verdict, narrowed}
 use Rattle.bench_file.specs.VerdictLaws.{narrowed-width, narrowed-total}
@@ -73,54 +70,37 @@ module _ (w total d : ℕ) (support : List ℕ) where
   ds = cube support d
 
   -- the settings as the calls take them
-  pub settings-narrowed :
-      settingsNumber true (narrowed total) (between 2 64 (narrowed w)) support ds ≡ settingsNumber true total (between 2 64 w) support ds
-  settings-narrowed =
-      ap (λ (b : Bool). settingsNumber true (narrowed total) b support ds) (narrowed-width w)
-      ∙ narrowed-total true total (between 2 64 w) support ds
+  pub settings-narrowed : (limit : ℕ) →
+      limitedNumber limit true (narrowed total) (widthFits (narrowed w)) support ds ≡ limitedNumber limit true total (widthFits w) support ds
+  settings-narrowed limit =
+      ap (λ (b : Bool). limitedNumber limit true (narrowed total) b support ds) (narrowed-width w)
+      ∙ narrowed-total limit true total (widthFits w) support ds
 
-  -- what is said of the settings: a cause, a box that is too large, or its cells
-  pub box-refused : (r : Refusal) → settingsNumber true (narrowed total) (between 2 64 (narrowed w)) support ds ≡ code r
-      → refused (code r) ≡ reply (headNumber h) (cells ds)
+  -- what is said of them
+  pub box-told : reply (limitedNumber byteLimit true (narrowed total) (widthFits (narrowed w)) support ds) (cells ds) ≡ reply (headNumber h) (cells ds)
   unfolding headNumber
-  box-refused r e = reply-code r (cells ds) (first-code r _ (sym settings-narrowed ∙ e))
-
-  pub box-large : settingsNumber true (narrowed total) (between 2 64 (narrowed w)) support ds ≡ 0 → 4096 < cells ds
-      → refused 8 ≡ reply (headNumber h) (cells ds)
-  unfolding headNumber
-  box-large e k = sym (ap₂ (λ (n : ℕ) (b : Bool). reply (first n (cond b 8 0)) (cells ds)) (sym settings-narrowed ∙ e) (lt-ltb 4096 (cells ds) k))
-
-  pub box-fits : (count : ℕ) → settingsNumber true (narrowed total) (between 2 64 (narrowed w)) support ds ≡ 0 → cells ds ≤ 4096 → count ≡ cells ds
-      → accepted count ≡ reply (headNumber h) (cells ds)
-  unfolding headNumber
-  box-fits count e k q =
-      ap accepted q
-      ∙ sym (ap₂ (λ (n : ℕ) (b : Bool). reply (first n (cond b 8 0)) (cells ds)) (sym settings-narrowed ∙ e) (le-ltb 4096 (cells ds) k))
+  box-told = ap (λ (n : ℕ). reply n (cells ds)) (settings-narrowed byteLimit)
 
   -- settings that pass
   module _ (pass : headNumber h ≡ 0) where
-    pub head-settings : settingsNumber true total (between 2 64 w) support ds ≡ 0
+    pub head-settings : settingsNumber true total (widthFits w) support ds ≡ 0
     unfolding headNumber
-    head-settings = first-zero _ _ pass .0
+    head-settings = passes-higher byteLimit true total (widthFits w) support ds pass tableLimit (omega arith)
 
-    pub head-cells : cells ds ≤ 4096
+    pub head-cells : cells ds ≤ byteLimit
     unfolding headNumber
-    head-cells = go (ltb 4096 (cells ds)) refl (first-zero (settingsNumber true total (between 2 64 w) support ds) _ pass .1)
-      where
-        go : (b : Bool) → ltb 4096 (cells ds) ≡ b → _≡_ {A = ℕ} (cond b 8 0) 0 → cells ds ≤ 4096
-        go true e q = absurd (suc-ne-zero 7 q)
-        go false e q = ltb-false 4096 (cells ds) e
+    head-cells = settings-cells-le byteLimit true total (widthFits w) support ds pass
 
     pub head-width : narrowed w ≡ w
     head-width =
-        let k = width-high w (passes true total (between 2 64 w) support ds head-settings .width) in
+        let k = width-high w (passes tableLimit true total (widthFits w) support ds head-settings .width) in
         omega arith
 
     -- recovery then has all it needs
     pub in-out : (v z : List ℕ) → length v ≡ cells ds → length z ≡ cells ds → inOutNumber true (narrowed total) (narrowed w) support ds v z ≡ 0
     unfolding callNumber
     in-out v z a b =
-        ap (λ (n : ℕ). first n (cond (eqb (length v) (cells ds) && eqb (length z) (cells ds)) 0 9)) (settings-narrowed ∙ head-settings)
+        ap (λ (n : ℕ). first n (cond (eqb (length v) (cells ds) && eqb (length z) (cells ds)) 0 9)) (settings-narrowed tableLimit ∙ head-settings)
         ∙ simp (eq-eqb (length v) (cells ds) a, eq-eqb (length z) (cells ds) b)
 
     pub recovered-number : (v z : List ℕ) → length v ≡ cells ds → length z ≡ cells ds

@@ -10,18 +10,17 @@ use lib.Dec.{T, eqb}
 use lib.ListN.{length}
 use Rattle.meaning.specs.Tables.{tabulate}
 use Rattle.meaning.specs.Boxes.{cells}
-use Rattle.meaning.specs.Replies.{between}
 use Rattle.meaning.specs.Recovery.{accepts, answer}
-use Rattle.meaning.specs.Settings.{first}
+use Rattle.meaning.specs.Settings.{widthFits, byteLimit, first}
 use Rattle.demand3.specs.Tests.{suc-zero, cond-true, first-zero, first-not-6, cond-not-6, not-6}
-use Rattle.demand3.specs.Settings.{WidthFits, Sound, NoZero, width-iff, small-iff, small-not-6}
+use Rattle.demand3.specs.Settings.{WidthFits, Sound, NoZero, limited-iff, limited-not-6}
 use Rattle.demand3.specs.Promises.{Decides}
 use Rattle.demand3.specs.Decided.{decides, accepted-accepts}
 use Rattle.bench_file.specs.Layout.{Head, Content, ill-head, ill-values, whole, degreesOf, headNumber, benchNumber, acceptedText, refusedText, benchText}
 
 -- the settings of the first two lines pass, and there is a value for each grid point
 pub record FilePasses (h : Head) (vs : List ℕ) : Type 0 where
-  pub sound : Sound 4096 (h .total) (h .support) (degreesOf h)
+  pub sound : Sound byteLimit (h .total) (h .support) (degreesOf h)
   pub width : WidthFits (h .width)
   pub degrees : NoZero (degreesOf h)
   pub values : length vs ≡ cells (degreesOf h)
@@ -52,7 +51,7 @@ Answering (whole h vs) text = GridAnswer h vs text
 module _ (h : Head) where
   head-not-6 : headNumber h ≡ 6 → ⊥
   unfolding headNumber
-  head-not-6 = small-not-6 true (h .total) (between 2 64 (h .width)) (h .support) (degreesOf h)
+  head-not-6 = limited-not-6 true (h .total) (widthFits (h .width)) (h .support) (degreesOf h) byteLimit
 
   -- 9 where there are not as many values as grid points
   abbrev nineUnless : Bool → ℕ
@@ -66,17 +65,17 @@ module _ (h : Head) where
   cause-iff vs =
       let both = first-zero (headNumber h) (nineUnless (eqb (length vs) (cells (degreesOf h)))) in
       let count = cond-true (eqb (length vs) (cells (degreesOf h))) 8 0 in
-      let small = small-iff true (h .total) (between 2 64 (h .width)) (h .support) (degreesOf h) in (
+      let small = limited-iff true (h .total) (widthFits (h .width)) (h .support) (degreesOf h) byteLimit in (
         λ e.
             let s = small .0 (both .0 e .0) in
             record {
               sound = s .0;
-              width = width-iff (h .width) .0 (s .1);
+              width = s .1;
               degrees = s .2 refl;
               values = eqb-true (length vs) (cells (degreesOf h)) (count .0 (both .0 e .1) .0);
             },
         λ f. both .1 (
-          small .1 (f .sound, width-iff (h .width) .1 (f .width), λ e. f .degrees),
+          small .1 (f .sound, f .width, λ e. f .degrees),
           count .1 (eq-eqb (length vs) (cells (degreesOf h)) (f .values), refl),
         ),
       )

@@ -10,19 +10,18 @@ use borrow.Author.Tests.{eqb-false, eqb-true}
 use lib.Dec.{eqb, ltb}
 use lib.ListN.{length, replicate, length-replicate}
 use Rattle.meaning.specs.Boxes.{cells}
-use Rattle.meaning.specs.Replies.{between}
-use Rattle.meaning.specs.Settings.{some, settingsNumber}
+use Rattle.meaning.specs.Settings.{widthFits, some, limitedNumber, settingsNumber}
 use Rattle.meaning.specs.Recovery.{answer}
 use Rattle.theory.specs.Tables.{length-tabulate}
 use Rattle.bench_file.specs.Layout.{Head, Content, ill-head, ill-values, whole, degreesOf, headNumber, benchNumber, nonZeros, acceptedText, refusedText, benchText}
 use Rattle.bench_file.specs.PrintLaws.{length-accepted, length-refused, non-zeros-few}
 use Rattle.bench_file.specs.HeadLines.{lt-or-ge}
-use Rattle.theory.specs.Settings.{first-zero}
+use Rattle.theory.specs.AcceptedCalls.{first-zero}
 use Rattle.bench.specs.AnswerLaws.{head-settings, head-cells}
 
 -- no degree is 0 where strict settings pass
 no-zero-degree : (total : ℕ) (fits : Bool) (support ds : List ℕ) → settingsNumber true total fits support ds ≡ 0 → some (eqb 0) ds ≡ false
-unfolding settingsNumber
+unfolding limitedNumber
 no-zero-degree total fits support ds = go (eqb (length support) 0) (ltb 20 total) fits (some (eqb 0) ds) _
   where
     go : (a b c e : Bool) (n : ℕ) → cond a 1 (cond b 2 (cond c (cond e 4 n) 3)) ≡ 0 → e ≡ false
@@ -101,7 +100,7 @@ text-room (whole h vs) = go (eqb (benchNumber (whole h vs)) 0) refl
         let few = head-cells (h .width) (h .total) (h .degree) (h .support) pass in
         accepted-room (h .width) (length (h .support)) (h .degree) vs
         (few-variables (length (h .support)) (h .degree)
-        (no-zero-degree (h .total) (between 2 64 (h .width)) (h .support) (degreesOf h)
+        (no-zero-degree (h .total) (widthFits (h .width)) (h .support) (degreesOf h)
         (head-settings (h .width) (h .total) (h .degree) (h .support) pass)) few) few
 
     go : (b : Bool) → eqb (benchNumber (whole h vs)) 0 ≡ b

@@ -10,26 +10,24 @@ ghost use Rattle.bench_file.specs.Layout.{headNumber};
 ghost use Rattle.bench_file.specs.Printed.{printed, printedSize};
 ghost use Rattle.bench.specs.Answers.{asked, textFor, recoveredText, textOf, lowHead, SaysText, LeavesText};
 use answers::Number;
-use answers::Refusal;
 use bench_file::answer::Written;
 use bench_file::reader::Reader;
 use bench_file::reader::Reading;
 
-// The cells of the box, or the first cause in the settings. A box above 4,096 cells is turned down here.
+// The cells of the box, or the first cause in the settings.
 fn box_cells(support: &[u64], total: u64, width: u64, degree: u8) -> Number
     ensures { λ r. ⌜ said r ≡ reply (headNumber (asked width total degree (now (support .entry)))) (cells (cube (now (support .entry)) degree)) ⌝ }
 {
     let few = bench_file::verdict::narrow(total);
     let bits = bench_file::verdict::narrow(width);
-    match poly::settings(true, support, few, bits, degree) {
-        Number::Refused(refusal) => Number::Refused(refusal),
-        Number::Value(count) => {
-            if 4096 < count {
-                return Number::Refused(Refusal::TooLarge);
-            }
-            Number::Value(count)
-        }
-    }
+    settings::check_within(
+        settings::BYTE_LIMIT,
+        true,
+        support,
+        few,
+        settings::width_fits(bits),
+        degree,
+    )
 }
 
 // Writes the number, or the coefficients where it is 0.

@@ -6,8 +6,7 @@ use mathlib.Core.List.{List, [], _∷_, _++_}
 use lib.Dec.{eqb}
 use lib.ListN.{length}
 use Rattle.meaning.specs.Boxes.{cells, digits}
-use Rattle.meaning.specs.Replies.{between}
-use Rattle.meaning.specs.Settings.{cube, settingsNumber, smallNumber, first}
+use Rattle.meaning.specs.Settings.{widthFits, cube, limitedNumber, smallNumber, first}
 use Rattle.meaning.specs.Recovery.{accepts, answer}
 use Rattle.bench_file.specs.Text.{line}
 
@@ -64,8 +63,8 @@ degreesOf h = cube (h .support) (h .degree)
 
 -- the number of the first cause in the settings, in the order 1, 2, 3, 4, 5, 7, 8. A box above 4,096 cells is 8 here.
 unfoldable pub headNumber : Head → ℕ
-unfolding settingsNumber cells
-headNumber h = smallNumber true (h .total) (between 2 64 (h .width)) (h .support) (degreesOf h)
+unfolding limitedNumber cells
+headNumber h = smallNumber true (h .total) (widthFits (h .width)) (h .support) (degreesOf h)
 
 -- the number of the answer. The settings come before the values: where both are wrong the settings' number is said, and a box that is too large is 8
 -- however many values follow. An ill-formed value is 12 even where the count is wrong too.

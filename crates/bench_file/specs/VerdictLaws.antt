@@ -9,10 +9,9 @@ use borrow.Author.Tests.{lt-ltb}
 use lib.Dec.{eqb}
 use lib.ListN.{length}
 use Rattle.meaning.specs.Boxes.{cells}
-use Rattle.meaning.specs.Replies.{between}
-use Rattle.meaning.specs.Settings.{settingsNumber, first}
+use Rattle.meaning.specs.Settings.{widthFits, limitedNumber, first}
 use Rattle.meaning.specs.Recovery.{accepts}
-use Rattle.theory.specs.Ranges.{between-high}
+use Rattle.theory.specs.Ranges.{width-above}
 use Rattle.bench_file.specs.Layout.{Head, ill-head, ill-values, whole, degreesOf, headNumber, benchNumber}
 use Rattle.bench_file.specs.Verdict.{verdict, narrowed}
 use Rattle.bench_file.specs.HeadLines.{lt-or-ge}
@@ -51,26 +50,26 @@ module _ (x : Reading) (s : ℕ) (e : Bool) (r : ℕ) where
   at-wrong h k = ap₂ (λ (y : Reading) (b : Bool). verdict y s b r) h k
 
 -- the width
-pub narrowed-width : (w : ℕ) → between 2 64 (narrowed w) ≡ between 2 64 w
+pub narrowed-width : (w : ℕ) → widthFits (narrowed w) ≡ widthFits w
 narrowed-width w =
     ⊎-elim
-    (λ (h : 64 < w). between-high 2 64 (narrowed w) (omega arith) ∙ sym (between-high 2 64 w h))
-    (λ (h : w ≤ 64). let same : narrowed w ≡ w = omega arith in ap (between 2 64) same)
+    (λ (h : 64 < w). width-above (narrowed w) (omega arith) ∙ sym (width-above w h))
+    (λ (h : w ≤ 64). let same : narrowed w ≡ w = omega arith in ap widthFits same)
     (lt-or-ge 64 w)
 
 -- the total
-pub narrowed-total : (strict : Bool) (total : ℕ) (fits : Bool) (support ds : List ℕ)
-    → settingsNumber strict (narrowed total) fits support ds ≡ settingsNumber strict total fits support ds
-unfolding settingsNumber
-narrowed-total strict total fits support ds = ⊎-elim large small (lt-or-ge 20 total)
+pub narrowed-total : (limit : ℕ) (strict : Bool) (total : ℕ) (fits : Bool) (support ds : List ℕ)
+    → limitedNumber limit strict (narrowed total) fits support ds ≡ limitedNumber limit strict total fits support ds
+unfolding limitedNumber
+narrowed-total limit strict total fits support ds = ⊎-elim large small (lt-or-ge 20 total)
   where
-    small : total ≤ 20 → settingsNumber strict (narrowed total) fits support ds ≡ settingsNumber strict total fits support ds
-    small h = let same : narrowed total ≡ total = omega arith in ap (λ (x : ℕ). settingsNumber strict x fits support ds) same
+    small : total ≤ 20 → limitedNumber limit strict (narrowed total) fits support ds ≡ limitedNumber limit strict total fits support ds
+    small h = let same : narrowed total ≡ total = omega arith in ap (λ (x : ℕ). limitedNumber limit strict x fits support ds) same
 
-    large : 20 < total → settingsNumber strict (narrowed total) fits support ds ≡ settingsNumber strict total fits support ds
+    large : 20 < total → limitedNumber limit strict (narrowed total) fits support ds ≡ limitedNumber limit strict total fits support ds
     large h = two (narrowed total) (omega arith) ∙ sym (two total h)
       where
-        two : (n : ℕ) → 20 < n → settingsNumber strict n fits support ds ≡ cond (eqb (length support) 0) 1 2
+        two : (n : ℕ) → 20 < n → limitedNumber limit strict n fits support ds ≡ cond (eqb (length support) 0) 1 2
         two n h = simp (lt-ltb 20 n h)
 
 -- the first of two numbers that is not 0

@@ -9,8 +9,8 @@ use Rattle.meaning.specs.Tables.{tabulate}
 use Rattle.meaning.specs.Boxes.{cells}
 use Rattle.meaning.specs.Values.{value}
 use Rattle.meaning.specs.Recovery.{accepts, answer}
-use Rattle.meaning.specs.Replies.{Reply, between}
-use Rattle.meaning.specs.Settings.{settingsNumber, smallNumber, first}
+use Rattle.meaning.specs.Replies.{Reply}
+use Rattle.meaning.specs.Settings.{widthFits, byteLimit, limitedNumber, smallNumber, first}
 use Rattle.meaning.specs.Calls.{reply, left}
 use Rattle.meaning.specs.Fit.{Fit, fitOf, columns, fitRows, fitColumns, degreeUsed, fitSucceeds, fitAnswer}
 use Rattle.byte_calls.specs.Bytes.{decoded, encoded}
@@ -21,27 +21,27 @@ holds bytes n = eqb (length bytes) (n * 8)
 
 -- the number before a table is looked at: 9 where the support does not have its count of entries, then the settings
 unfoldable pub boxNumber : Bool → ℕ → ℕ → ℕ → List ℕ → List ℕ → ℕ
-unfolding settingsNumber cells decoded
+unfolding limitedNumber cells decoded
 boxNumber strict count total w support ds =
-    first (cond (holds support count) 0 9) (smallNumber strict total (between 2 64 w) (decoded support) ds)
+    first (cond (holds support count) 0 9) (smallNumber strict total (widthFits w) (decoded support) ds)
 
 -- recovery: then 9 where a table does not have an entry for each cell
-unfoldable pub recoverCause : ℕ → ℕ → ℕ → List ℕ → List ℕ → List ℕ → List ℕ → ℕ
+unfoldable pub bytesRecoveryCause : ℕ → ℕ → ℕ → List ℕ → List ℕ → List ℕ → List ℕ → ℕ
 unfolding boxNumber cells
-recoverCause count total w support ds values out =
+bytesRecoveryCause count total w support ds values out =
     first (boxNumber true count total w support ds) (cond (holds values (cells ds) && holds out (cells ds)) 0 9)
 
 -- then 6 where a difference does not pass
-unfoldable pub recoverNumber : ℕ → ℕ → ℕ → List ℕ → List ℕ → List ℕ → List ℕ → ℕ
-unfolding recoverCause accepts decoded
-recoverNumber count total w support ds values out =
-    first (recoverCause count total w support ds values out) (cond (accepts w ds (decoded values)) 0 6)
+unfoldable pub bytesRecoveryNumber : ℕ → ℕ → ℕ → List ℕ → List ℕ → List ℕ → List ℕ → ℕ
+unfolding bytesRecoveryCause accepts decoded
+bytesRecoveryNumber count total w support ds values out =
+    first (bytesRecoveryCause count total w support ds values out) (cond (accepts w ds (decoded values)) 0 6)
 
 -- the coefficients where it is accepted, zeros after 6, else what was there
-unfoldable pub recoverLeft : ℕ → ℕ → ℕ → List ℕ → List ℕ → List ℕ → List ℕ → List ℕ
-unfolding recoverCause accepts answer decoded encoded
-recoverLeft count total w support ds values out =
-    left (recoverCause count total w support ds values out)
+unfoldable pub bytesRecoveryLeft : ℕ → ℕ → ℕ → List ℕ → List ℕ → List ℕ → List ℕ → List ℕ
+unfolding bytesRecoveryCause accepts answer decoded encoded
+bytesRecoveryLeft count total w support ds values out =
+    left (bytesRecoveryCause count total w support ds values out)
     (encoded (cond (accepts w ds (decoded values)) (answer w ds (decoded values)) (tabulate (cells ds) (λ n. 0)))) out
 
 -- the value at a point: 9 where there is not a coefficient for each cell and a coordinate for each variable
@@ -62,7 +62,7 @@ unfoldable pub fitBytesCause : ℕ → List ℕ → List ℕ → List ℕ → Li
 unfolding boxNumber columns cells
 fitBytesCause count support weights targets out f =
     first (boxNumber false count (f .variables) (f .width) support (f .grid))
-    (first (cond (ltb 4096 (fitRows f * length (fitColumns f))) 8 0)
+    (first (cond (ltb byteLimit (fitRows f * length (fitColumns f))) 8 0)
     (cond (holds weights (fitRows f) && holds targets (fitRows f) && holds out (cells (f .degrees))) 0 9))
 
 -- then 10 where the elimination finds no answer; with degree_used

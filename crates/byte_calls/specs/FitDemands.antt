@@ -6,16 +6,16 @@ use Prim.Native.Nat.{ℕ, _≤_, min}
 use mathlib.Core.List.{List}
 use Rattle.meaning.specs.Tables.{tabulate}
 use Rattle.meaning.specs.Boxes.{cells}
-use Rattle.meaning.specs.Replies.{Reply, between}
-use Rattle.meaning.specs.Settings.{cube, settingsNumber, first}
+use Rattle.meaning.specs.Replies.{Reply}
+use Rattle.meaning.specs.Settings.{widthFits, byteLimit, cube, first}
 use Rattle.meaning.specs.Calls.{reply, left}
 use Rattle.meaning.specs.Fit.{Fit, degreeUsed, fitSucceeds, fitAnswer}
-use Rattle.theory.specs.Settings.{first-zero, passes}
-use Rattle.theory.specs.AcceptedCalls.{width-high}
+use Rattle.theory.specs.AcceptedCalls.{first-zero, number-reply}
+use Rattle.settings.specs.Causes.{passes}
+use Rattle.theory.specs.Ranges.{width-high}
 use Rattle.theory.specs.SolverLaws.{passed}
 use Rattle.theory.specs.FitLaws.{fitAnswer-normal}
 use Rattle.demand3.specs.SameWords.{normal-iff}
-use Rattle.theory.specs.AcceptedCalls.{number-reply}
 use Rattle.weighted_poly_fit.specs.Fits.{Fits}
 use Rattle.weighted_poly_fit.specs.FitsLaws.{Solved, fits-of-solved, cubes-same}
 use Rattle.byte_calls.specs.Bytes.{decoded, encoded}
@@ -35,8 +35,7 @@ module _ (count total w : ℕ) (support : List ℕ) (most grid : ℕ) (weights t
   small-width e =
       let box = first-zero (boxNumber false count total w support (cube (decoded support) grid)) _ e .0 in
       let settled = first-zero (cond (holds support count) 0 9) _ box .1 in
-      let sound = first-zero (settingsNumber false total (between 2 64 w) (decoded support) (cube (decoded support) grid)) _ settled .0 in
-      width-high w (passes false total (between 2 64 w) (decoded support) (cube (decoded support) grid) sound .width)
+      width-high w (passes byteLimit false total (widthFits w) (decoded support) (cube (decoded support) grid) settled .width)
 
   pub fits-of-bytes : {r : Reply} {after : List ℕ} → r ≡ fitBytesReply count support weights targets out asked
       → after ≡ fitBytesLeft count support weights targets out asked

@@ -11,12 +11,13 @@ use lib.ListN.{length}
 use Rattle.meaning.specs.Tables.{tabulate, at}
 use Rattle.meaning.specs.Boxes.{cells}
 use Rattle.meaning.specs.Recovery.{accepts, answer}
-use Rattle.meaning.specs.Replies.{Reply, between}
-use Rattle.meaning.specs.Settings.{smallNumber, first}
+use Rattle.meaning.specs.Replies.{Reply}
+use Rattle.meaning.specs.Settings.{widthFits, byteLimit, smallNumber, first}
 use Rattle.meaning.specs.Calls.{left}
 use Rattle.theory.specs.Tables.{at-tabulate-zero}
 use Rattle.demand3.specs.Tests.{false-true, and-true, cond-true, first-zero, first-not-6, cond-not-6, not-6}
-use Rattle.demand3.specs.Settings.{WidthFits, Sound, NoZero, width-iff, small-iff, small-not-6}
+use Rattle.theory.specs.Ranges.{width-high}
+use Rattle.demand3.specs.Settings.{WidthFits, Sound, NoZero, limited-iff, limited-not-6}
 use Rattle.demand3.specs.Promises.{Decides, Valued}
 use Rattle.demand3.specs.Recovery.{answer-normal}
 use Rattle.demand3.specs.NormalForms.{normal-word}
@@ -24,12 +25,12 @@ use Rattle.demand3.specs.Decided.{decides}
 use Rattle.demand3.specs.BoxCalls.{valued}
 use Rattle.byte_calls.specs.Bytes.{decoded, encoded}
 use Rattle.byte_calls.specs.ByteLaws.{decode-encode}
-use Rattle.byte_calls.specs.Calls.{holds, boxNumber, recoverCause, recoverNumber, recoverLeft, bytesValueReply}
+use Rattle.byte_calls.specs.Calls.{holds, boxNumber, bytesRecoveryCause, bytesRecoveryNumber, bytesRecoveryLeft, bytesValueReply}
 
 -- settings of a box on bytes: the support has `count` entries, and there are at most 4,096 cells
 pub record BoxHolds (count total w : ℕ) (support ds : List ℕ) : Type 0 where
   pub support-bytes : length support ≡ count * 8
-  pub sound : Sound 4096 total (decoded support) ds
+  pub sound : Sound byteLimit total (decoded support) ds
   pub width : WidthFits w
 
 -- recovery besides: no degree is 0, and there is a value and room for a coefficient for each cell
@@ -66,26 +67,26 @@ module _ (strict : Bool) (count total w : ℕ) (support ds : List ℕ) where
   box-iff : (boxNumber strict count total w support ds ≡ 0) ↔ (BoxHolds count total w support ds × (strict ≡ true → NoZero ds))
   unfolding boxNumber
   box-iff =
-      let both = first-zero (cond (holds support count) 0 9) (smallNumber strict total (between 2 64 w) (decoded support) ds) in
+      let both = first-zero (cond (holds support count) 0 9) (smallNumber strict total (widthFits w) (decoded support) ds) in
       let own = cond-true (holds support count) 8 0 in
-      let small = small-iff strict total (between 2 64 w) (decoded support) ds in (
+      let small = limited-iff strict total (widthFits w) (decoded support) ds byteLimit in (
         λ e.
             let s = small .0 (both .0 e .1) in
-            (record { support-bytes = holds-iff support count .0 (own .0 (both .0 e .0) .0); sound = s .0; width = width-iff w .0 (s .1) }, s .2),
-        λ s. both .1 (own .1 (holds-iff support count .1 (s .0 .support-bytes), refl), small .1 (s .0 .sound, width-iff w .1 (s .0 .width), s .1)),
+            (record { support-bytes = holds-iff support count .0 (own .0 (both .0 e .0) .0); sound = s .0; width = s .1 }, s .2),
+        λ s. both .1 (own .1 (holds-iff support count .1 (s .0 .support-bytes), refl), small .1 (s .0 .sound, s .0 .width, s .1)),
       )
 
   box-not-6 : boxNumber strict count total w support ds ≡ 6 → ⊥
   unfolding boxNumber
   box-not-6 =
-      first-not-6 (cond (holds support count) 0 9) (smallNumber strict total (between 2 64 w) (decoded support) ds)
-      (cond-not-6 (holds support count) (not-6 0 tt) (not-6 9 tt)) (small-not-6 strict total (between 2 64 w) (decoded support) ds)
+      first-not-6 (cond (holds support count) 0 9) (smallNumber strict total (widthFits w) (decoded support) ds)
+      (cond-not-6 (holds support count) (not-6 0 tt) (not-6 9 tt)) (limited-not-6 strict total (widthFits w) (decoded support) ds byteLimit)
 
 -- ---- recovery
 
 module _ (count total w : ℕ) (support ds values out : List ℕ) where
-  cause-iff : (recoverCause count total w support ds values out ≡ 0) ↔ RecoverHolds count total w support ds values out
-  unfolding recoverCause
+  cause-iff : (bytesRecoveryCause count total w support ds values out ≡ 0) ↔ RecoverHolds count total w support ds values out
+  unfolding bytesRecoveryCause
   cause-iff =
       let both = first-zero (boxNumber true count total w support ds) (cond (holds values (cells ds) && holds out (cells ds)) 0 9) in
       let box = box-iff true count total w support ds in
@@ -97,8 +98,8 @@ module _ (count total w : ℕ) (support ds values out : List ℕ) where
         λ h. both .1 (box .1 (h .settings, λ e. h .degrees), tables .1 (h .value-bytes, h .output-bytes)),
       )
 
-  cause-not-6 : recoverCause count total w support ds values out ≡ 6 → ⊥
-  unfolding recoverCause
+  cause-not-6 : bytesRecoveryCause count total w support ds values out ≡ 6 → ⊥
+  unfolding bytesRecoveryCause
   cause-not-6 =
       first-not-6 (boxNumber true count total w support ds) (cond (holds values (cells ds) && holds out (cells ds)) 0 9)
       (box-not-6 true count total w support ds) (cond-not-6 (holds values (cells ds) && holds out (cells ds)) (not-6 0 tt) (not-6 9 tt))
@@ -115,14 +116,14 @@ module _ (count total w : ℕ) (support ds values out : List ℕ) where
       go false = rw (at-tabulate-zero (cells ds) i) (pow-pos 64)
 
   pub bytes-decide : {number : ℕ} {after : List ℕ}
-      → number ≡ recoverNumber count total w support ds values out → after ≡ recoverLeft count total w support ds values out
+      → number ≡ bytesRecoveryNumber count total w support ds values out → after ≡ bytesRecoveryLeft count total w support ds values out
       → Decides (RecoverHolds count total w support ds values out) w ds (decoded values) number (decoded after)
-  unfolding recoverNumber recoverLeft
+  unfolding bytesRecoveryNumber bytesRecoveryLeft
   bytes-decide e f =
-      decides w ds (decoded values) (recoverCause count total w support ds values out) cause-iff cause-not-6 e
+      decides w ds (decoded values) (bytesRecoveryCause count total w support ds values out) cause-iff cause-not-6 e
       (λ z.
       ap decoded (f ∙ ap (λ (k : ℕ). left k (encoded box) out) z)
-      ∙ decode-encode box (box-words (cause-iff .0 z .settings .width .1)))
+      ∙ decode-encode box (box-words (width-high w (cause-iff .0 z .settings .width))))
 
 -- ---- the value
 

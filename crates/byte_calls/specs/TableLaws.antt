@@ -5,36 +5,35 @@ use mathlib.Core.Bool.{Bool, true, false, _&&_, cond}
 use mathlib.Core.List.{List}
 use Prim.Native.Nat.{ℕ, suc, _*_, _≤_, _^_}
 use native.Mathlib.Nat.{suc-ne-zero}
-use lib.Dec.{ltb, eqb}
+use native.Mathlib.Omega.{arith}
+use lib.Dec.{eqb}
 use lib.ListN.{length, take, replicate, length-replicate}
 use lib.Seq.{length-take-le}
-use borrow.Author.Tests.{eq-eqb, eqb-true, ltb-false}
+use borrow.Author.Tests.{eq-eqb, eqb-true}
 use Rattle.meaning.specs.Tables.{tabulate}
 use Rattle.meaning.specs.Boxes.{cells}
 use Rattle.meaning.specs.Values.{value}
 use Rattle.meaning.specs.Recovery.{accepts, answer}
-use Rattle.meaning.specs.Replies.{Reply, refused, between}
-use Rattle.meaning.specs.Settings.{settingsNumber, smallNumber, first}
+use Rattle.meaning.specs.Replies.{Reply, refused}
+use Rattle.meaning.specs.Settings.{widthFits, tableLimit, byteLimit, smallNumber, first}
 use Rattle.meaning.specs.Calls.{reply, left, inOutNumber, recoveryNumber, recoveryLeft, valueReply}
-use Rattle.theory.specs.Settings.{passes, first-zero}
+use Rattle.theory.specs.AcceptedCalls.{first-zero}
+use Rattle.settings.specs.Causes.{passes, passes-higher, settings-cells-le}
 use Rattle.answers.specs.declared.Refusal.{Refusal}
 use Rattle.answers.specs.declared.Number.{Number}
 use Rattle.answers.specs.Said.{code, said}
-use Rattle.answers.specs.Laws.{Settled, number-accepted, value-accepted, number-refused, reply-code, first-code, left-code, settled-number}
+use Rattle.answers.specs.Laws.{number-accepted, value-accepted, number-refused, reply-code, first-code, left-code}
+use Rattle.settings.specs.Settled.{Settled, settled-number}
 use Rattle.byte_calls.specs.Bytes.{decoded, encoded}
 use Rattle.byte_calls.specs.ByteLaws.{length-decoded}
 use Rattle.demand3.specs.Promises.{Decides, Valued}
 use Rattle.demand3.specs.Also.{also, also₂}
 use Rattle.byte_calls.specs.Passing.{RecoverHolds, ValueHolds, bytes-decide, bytes-valued}
-use Rattle.byte_calls.specs.Calls.{holds, boxNumber, recoverCause, recoverNumber, recoverLeft, bytesValueReply}
+use Rattle.byte_calls.specs.Calls.{holds, boxNumber, bytesRecoveryCause, bytesRecoveryNumber, bytesRecoveryLeft, bytesValueReply}
 
 is-true : (b : Bool) (n : ℕ) → _≡_ {A = ℕ} (cond b 0 (suc n)) 0 → b ≡ true
 is-true true n e = refl
 is-true false n e = absurd (suc-ne-zero n e)
-
-is-false : (b : Bool) (n : ℕ) → _≡_ {A = ℕ} (cond b (suc n) 0) 0 → b ≡ false
-is-false true n e = absurd (suc-ne-zero n e)
-is-false false n e = refl
 
 -- the first n of `most` zeros are room for n entries
 pub room : (n most : ℕ) → n ≤ most → n ≡ length (take n (replicate {A = ℕ} most 0))
@@ -59,7 +58,7 @@ nine-left n done was e = sym (ap (λ (i : ℕ). left i done was) e)
 
 pub record Boxed (strict : Bool) (count total w : ℕ) (support ds : List ℕ) (n : ℕ) : Type 0 where
   pub number : boxNumber strict count total w support ds ≡ 0
-  pub settles : Settled strict total (between 2 64 w) (decoded support) ds n
+  pub settles : Settled strict total (widthFits w) (decoded support) ds n
   pub bytes : length support ≡ count * 8
   pub small : n ≤ 4096
   pub few : count ≤ 20
@@ -72,15 +71,14 @@ module _ (strict : Bool) (count total w : ℕ) (support ds : List ℕ) {answer :
       let told = sym (ap said e) ∙ says in
       let none = number-accepted (boxNumber strict count total w support ds) (cells ds) told in
       let counted = value-accepted (boxNumber strict count total w support ds) (cells ds) told in
-      let causes = first-zero (cond (holds support count) 0 9) (smallNumber strict total (between 2 64 w) (decoded support) ds) none in
-      let settings = first-zero (settingsNumber strict total (between 2 64 w) (decoded support) ds) (cond (ltb 4096 (cells ds)) 8 0) (causes .1) in
+      let causes = first-zero (cond (holds support count) 0 9) (smallNumber strict total (widthFits w) (decoded support) ds) none in
       let bytes : length support ≡ count * 8 = eqb-true (length support) (count * 8) (is-true (holds support count) 8 (causes .0)) in
-      let few = passes strict total (between 2 64 w) (decoded support) ds (settings .0) .short in
+      let few = passes byteLimit strict total (widthFits w) (decoded support) ds (causes .1) .short in
       record {
         number = none;
-        settles = record { passes = settings .0; counted = counted };
+        settles = record { passes = passes-higher byteLimit strict total (widthFits w) (decoded support) ds (causes .1) tableLimit (omega arith); counted = counted };
         bytes = bytes;
-        small = rw counted (ltb-false 4096 (cells ds) (is-false (ltb 4096 (cells ds)) 7 (settings .1)));
+        small = rw counted (settings-cells-le byteLimit strict total (widthFits w) (decoded support) ds (causes .1));
         few = rw (length-decoded support count bytes) at few;
       }
 
@@ -99,23 +97,23 @@ module _ {strict : Bool} {count total w : ℕ} {support ds : List ℕ} {n : ℕ}
 
 module _ (count total w : ℕ) (support ds values out : List ℕ) where
   recover-causes : {n k : ℕ} → boxNumber true count total w support ds ≡ n → cond (holds values (cells ds) && holds out (cells ds)) 0 9 ≡ k
-      → recoverCause count total w support ds values out ≡ first n k
-  unfolding recoverCause
+      → bytesRecoveryCause count total w support ds values out ≡ first n k
+  unfolding bytesRecoveryCause
   recover-causes e q = ap₂ first e q
 
   -- what is returned and left, and what they promise
   abbrev Said : ℕ → List ℕ → Type 0
   Said n t =
-      (n ≡ recoverNumber count total w support ds values out)
-      × ((t ≡ recoverLeft count total w support ds values out)
+      (n ≡ bytesRecoveryNumber count total w support ds values out)
+      × ((t ≡ bytesRecoveryLeft count total w support ds values out)
       × Decides (RecoverHolds count total w support ds values out) w ds (decoded values) n (decoded t))
 
-  promised : {n : ℕ} {t : List ℕ} → (n ≡ recoverNumber count total w support ds values out) × (t ≡ recoverLeft count total w support ds values out) → Said n t
+  promised : {n : ℕ} {t : List ℕ} → (n ≡ bytesRecoveryNumber count total w support ds values out) × (t ≡ bytesRecoveryLeft count total w support ds values out) → Said n t
   promised = also₂ (bytes-decide count total w support ds values out)
 
   -- settings that are turned down
   pub recover-turned : (r : Refusal) → boxNumber true count total w support ds ≡ code r → Said (code r) out
-  unfolding recoverNumber recoverLeft
+  unfolding bytesRecoveryNumber bytesRecoveryLeft
   recover-turned r e =
       let cause = recover-causes e refl ∙ first-code r _ refl in
       promised (sym (first-code r _ cause), sym (left-code r _ _ cause))
@@ -123,7 +121,7 @@ module _ (count total w : ℕ) (support ds values out : List ℕ) where
   module _ {n : ℕ} (b : Boxed true count total w support ds n) where
     -- a wrong length
     pub recover-lengths : holds values n && holds out n ≡ false → Said 9 out
-    unfolding recoverNumber recoverLeft
+    unfolding bytesRecoveryNumber bytesRecoveryLeft
     recover-lengths e =
         let exact = ap₂ _&&_ (holds-cells b values refl) (holds-cells b out refl) ∙ e in
         let cause = recover-causes (b .number) (ap (λ (x : Bool). cond x 0 9) exact) in
@@ -136,13 +134,13 @@ module _ (count total w : ℕ) (support ds values out : List ℕ) where
       passed : inOutNumber true total w (decoded support) ds (decoded values) found ≡ 0
       passed = settled-number (b .settles) _ true exact
 
-      cause : recoverCause count total w support ds values out ≡ 0
+      cause : bytesRecoveryCause count total w support ds values out ≡ 0
       cause = recover-causes (b .number) (ap (λ (x : Bool). cond x 0 9) (ap₂ _&&_ (holds-cells b values hv) (holds-cells b out ho)))
 
       -- the call on the tables
       pub recover-done : {x : ℕ} {t : List ℕ} → x ≡ recoveryNumber total w (decoded support) ds (decoded values) found
           → t ≡ encoded (recoveryLeft total w (decoded support) ds (decoded values) found) → Said x t
-      unfolding recoverNumber recoverLeft recoveryNumber recoveryLeft
+      unfolding bytesRecoveryNumber bytesRecoveryLeft recoveryNumber recoveryLeft
       recover-done p q =
           let v = decoded values in
           let done = cond (accepts w ds v) (answer w ds v) (tabulate (cells ds) (λ n. 0)) in

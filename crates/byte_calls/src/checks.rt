@@ -1,14 +1,13 @@
 // The checks that all calls share: the support's bytes, then the settings on the support that they hold.
 ghost use mathlib.Core.Path.{_≡_};
 ghost use Prim.Native.Nat.{_*_, _<_};
-ghost use mathlib.Core.Bool.{_&&_};
-ghost use lib.Dec.{leb, eqb};
+ghost use lib.Dec.{leb};
 ghost use lib.ListN.{length};
 ghost use Rattle.meaning.specs.Boxes.{cells};
-ghost use Rattle.meaning.specs.Replies.{between};
-ghost use Rattle.meaning.specs.Settings.{cube, some, settingsNumber, smallNumber};
+ghost use Rattle.meaning.specs.Settings.{widthFits, cube, some, smallNumber};
 ghost use Rattle.meaning.specs.Calls.{reply};
-ghost use Rattle.answers.specs.Said.{code, said};
+ghost use Rattle.answers.specs.Said.{said};
+ghost use Rattle.settings.specs.Causes.{stand-in};
 ghost use Rattle.byte_calls.specs.Bytes.{decoded};
 ghost use Rattle.byte_calls.specs.Calls.{holds, boxNumber};
 use crate::codec;
@@ -23,16 +22,6 @@ pub(crate) fn holds(bytes: &[u8], count: u64) -> bool
         return false;
     }
     (bytes.len() / 8) as u64 == count
-}
-
-// Whether the degree is 0 where it must not be.
-fn zero_degree(strict: bool, degree: u8) -> bool
-    ensures { λ r. ⌜ r ≡ (strict && eqb 0 degree) ⌝ }
-{
-    if strict {
-        return 0 == degree;
-    }
-    false
 }
 
 // Whether some index is not below the total.
@@ -51,27 +40,32 @@ fn index_past(support: &[u8], total: u32) -> bool
     false
 }
 
-// Why settings with more than twenty indices are turned down: more than twenty indices below a total of at most twenty cannot be distinct.
-fn crowded(strict: bool, support: &[u8], total: u32, width: u32, degree: u8) -> Refusal
-    requires { ⌜ 20 < length (decoded (now support)) ⌝ }
-    ensures { λ r. ⌜ code r ≡ settingsNumber strict total (between 2 64 width) (decoded (now (support .entry))) (cube (decoded (now (support .entry))) degree) ⌝ }
+// An index that is past the total where one of the support is.
+fn stand_in(support: &[u8], total: u32) -> u64
+    ensures { λ r. ⌜ r ≡ stand-in total (decoded (now (support .entry))) ⌝ }
 {
-    if 20 < total {
-        return Refusal::TooManyVariables;
-    }
-    if width < 2 {
-        return Refusal::WidthOutOfRange;
-    }
-    if 64 < width {
-        return Refusal::WidthOutOfRange;
-    }
-    if zero_degree(strict, degree) {
-        return Refusal::DegreeZero;
-    }
     if index_past(support, total) {
-        return Refusal::SupportIndex;
+        return total as u64;
     }
-    Refusal::RepeatedIndex
+    0
+}
+
+// Settings with more than twenty indices. Below a total of at most twenty they cannot be distinct, so that they are turned down as one index is that stands
+// twice, past the total where one of them is.
+fn crowded(strict: bool, support: &[u8], total: u32, width: u32, degree: u8) -> Number
+    requires { ⌜ 20 < length (decoded (now support)) ⌝ }
+    ensures { λ r. ⌜ said r ≡ reply (smallNumber strict total (widthFits width) (decoded (now (support .entry))) (cube (decoded (now (support .entry))) degree))
+        (cells (cube (decoded (now (support .entry))) degree)) ⌝ }
+{
+    let twice = [stand_in(support, total); 2];
+    settings::check_within(
+        settings::BYTE_LIMIT,
+        strict,
+        &twice,
+        total,
+        settings::width_fits(width),
+        degree,
+    )
 }
 
 // The settings on a support of bytes, with room lent for its indices.
@@ -84,19 +78,18 @@ fn check_in(
     indices: &mut [u64],
 ) -> Number
     requires { ⌜ length (now support) ≡ length (now indices) * 8 ⌝ }
-    ensures { λ r. ⌜ said r ≡ reply (smallNumber strict total (between 2 64 width) (decoded (now (support .entry))) (cube (decoded (now (support .entry))) degree))
+    ensures { λ r. ⌜ said r ≡ reply (smallNumber strict total (widthFits width) (decoded (now (support .entry))) (cube (decoded (now (support .entry))) degree))
         (cells (cube (decoded (now (support .entry))) degree)) ⌝ }
 {
     codec::decode(support, indices);
-    match poly::settings(strict, indices, total, width, degree) {
-        Number::Refused(refusal) => Number::Refused(refusal),
-        Number::Value(cells) => {
-            if 4096 < cells {
-                return Number::Refused(Refusal::TooLarge);
-            }
-            Number::Value(cells)
-        }
-    }
+    settings::check_within(
+        settings::BYTE_LIMIT,
+        strict,
+        indices,
+        total,
+        settings::width_fits(width),
+        degree,
+    )
 }
 
 // The support's bytes and the settings: the number of cells, at most 4,096, or the first cause to turn the call down, in the order 9 (the support's bytes),
@@ -116,7 +109,7 @@ pub(crate) fn check(
         return Number::Refused(Refusal::WrongLength);
     }
     if 20 < count {
-        return Number::Refused(crowded(strict, support, total, width, degree));
+        return crowded(strict, support, total, width, degree);
     }
     let mut indices = [0u64; 20];
     let known = count as usize;

@@ -57,13 +57,13 @@ fn fit_sized(
         (fitHeld total width (now (support .entry)) «max_degree» «grid_degree» (now (weights .entry)) (now (targets .entry))) ⌝ }
 {
     let entries = rows * cols;
-    if 4096 < entries {
+    if (settings::BYTE_LIMIT as u64) < entries {
         return Number::Refused(Refusal::TooLarge);
     }
     let degree = lesser_degree(max_degree, grid_degree);
     let degrees = [degree; 20];
     let known = count as usize;
-    let cells = poly::checks::count_cells(&degrees[..known]);
+    let cells = settings::count_cells(&degrees[..known], settings::BYTE_LIMIT);
     if !lengths_fit(weights, targets, out, rows, cells) {
         return Number::Refused(Refusal::WrongLength);
     }

@@ -7,7 +7,7 @@ ghost use Rattle.meaning.specs.Calls.{recoveryNumber, recoveryLeft, valueReply}
 ghost use Rattle.demand3.specs.Promises.{Decides, Valued};
 ghost use Rattle.answers.specs.Said.{said, saidNumber};
 ghost use Rattle.byte_calls.specs.Bytes.{decoded, encoded};
-ghost use Rattle.byte_calls.specs.Calls.{recoverNumber, recoverLeft, bytesValueReply};
+ghost use Rattle.byte_calls.specs.Calls.{bytesRecoveryNumber, bytesRecoveryLeft, bytesValueReply};
 ghost use Rattle.byte_calls.specs.Passing.{RecoverHolds, ValueHolds};
 
 mod checks;
@@ -66,9 +66,9 @@ pub fn recover(
     degree: u8,
     out: &mut [u8],
 ) -> Outcome
-    ensures says { λ r. ⌜ saidNumber r ≡ recoverNumber count total width (now (support .entry)) (cube (decoded (now (support .entry))) degree)
+    ensures says { λ r. ⌜ saidNumber r ≡ bytesRecoveryNumber count total width (now (support .entry)) (cube (decoded (now (support .entry))) degree)
         (now (values .entry)) (now (out .entry)) ⌝ }
-    ensures leaves { λ r. ⌜ now (out .exit) ≡ recoverLeft count total width (now (support .entry)) (cube (decoded (now (support .entry))) degree)
+    ensures leaves { λ r. ⌜ now (out .exit) ≡ bytesRecoveryLeft count total width (now (support .entry)) (cube (decoded (now (support .entry))) degree)
         (now (values .entry)) (now (out .entry)) ⌝ }
     ensures decides { λ r. ⌜ Decides (RecoverHolds count total width (now (support .entry)) (cube (decoded (now (support .entry))) degree)
         (now (values .entry)) (now (out .entry)))

@@ -9,9 +9,9 @@ use lib.Dec.{eqb}
 use lib.ListN.{length, replicate}
 use Rattle.meaning.specs.Tables.{at, tabulate}
 use Rattle.meaning.specs.Sums.{sum}
-use Rattle.meaning.specs.Replies.{between}
 use Rattle.meaning.specs.Calls.{left}
 use Rattle.meaning.specs.Elimination.{joined, fixedNumber, fixedAnswer, solverAnswer, solverCause}
+use Rattle.meaning.specs.Settings.{widthFits}
 use Rattle.theory.specs.Tables.{length-tabulate}
 use Rattle.two_adic_solver.specs.Solves.{Solves}
 use Rattle.cobra.specs.Systems.{four, square, fourFit, fourNumber, fourAnswer}
@@ -36,7 +36,7 @@ square-row w m r x s (suc (suc (suc (suc i)))) l = absurd (omega arith)
 
 module _ (w : ℕ) (m r a : List ℕ) where
   -- the width and the lengths decide
-  decided : (b c : Bool) → between 2 64 w ≡ b → fourFit m r a ≡ c
+  decided : (b c : Bool) → widthFits w ≡ b → fourFit m r a ≡ c
       → (fourNumber w m r a ≡ cond b (cond c (fixedNumber w (square m) (four 0 r)) 9) 3)
       × (fourAnswer w m r a ≡ cond b (cond c (fixedAnswer w (square m) (four 0 r)) a) a)
   unfolding fourNumber fourAnswer
@@ -49,23 +49,23 @@ module _ (w : ℕ) (m r a : List ℕ) where
   abbrev Told : ℕ → List ℕ → Type 0
   Told n out = (n ≡ fourNumber w m r a) × ((out ≡ fourAnswer w m r a) × (n ≡ 0 → Solves w 4 m r out))
 
-  pub four-width : between 2 64 w ≡ false → Told 3 a
+  pub four-width : widthFits w ≡ false → Told 3 a
   four-width e = let d = decided false (fourFit m r a) e refl in (sym (d .0), (sym (d .1), λ z. absurd (omega arith)))
 
-  four-length : between 2 64 w ≡ true → fourFit m r a ≡ false → Told 9 a
+  four-length : widthFits w ≡ true → fourFit m r a ≡ false → Told 9 a
   four-length e f = let d = decided true false e f in (sym (d .0), (sym (d .1), λ z. absurd (omega arith)))
 
   -- a matrix, a right side and an answer of another length
-  pub four-matrix : between 2 64 w ≡ true → eqb (length m) 16 ≡ false → Told 9 a
+  pub four-matrix : widthFits w ≡ true → eqb (length m) 16 ≡ false → Told 9 a
   four-matrix e f = four-length e (ap (_&& (eqb (length r) 4 && eqb (length a) 4)) f)
 
-  pub four-right : between 2 64 w ≡ true → eqb (length m) 16 ≡ true → eqb (length r) 4 ≡ false → Told 9 a
+  pub four-right : widthFits w ≡ true → eqb (length m) 16 ≡ true → eqb (length r) 4 ≡ false → Told 9 a
   four-right e f g = four-length e (ap₂ _&&_ f (ap (_&& eqb (length a) 4) g))
 
-  pub four-answer : between 2 64 w ≡ true → eqb (length m) 16 ≡ true → eqb (length r) 4 ≡ true → eqb (length a) 4 ≡ false → Told 9 a
+  pub four-answer : widthFits w ≡ true → eqb (length m) 16 ≡ true → eqb (length r) 4 ≡ true → eqb (length a) 4 ≡ false → Told 9 a
   four-answer e f g h = four-length e (ap₂ _&&_ f (ap₂ _&&_ g h))
 
-  pub four-solved : between 2 64 w ≡ true → fourFit m r a ≡ true → length r ≡ 4 → length a ≡ 4 → (n : ℕ) (x out : List ℕ)
+  pub four-solved : widthFits w ≡ true → fourFit m r a ≡ true → length r ≡ 4 → length a ≡ 4 → (n : ℕ) (x out : List ℕ)
       → n ≡ fixedNumber w (square m) (four 0 r) → x ≡ fixedAnswer w (square m) (four 0 r)
       → (n ≡ 0 → Solves w 4 (joined (square m)) (four 0 r) x) → out ≡ cond (eqb (length x) (length a)) x a → Told n out
   four-solved e f lr l n x out en ex s eo =

@@ -5,8 +5,8 @@ use mathlib.Core.List.{List, [], _∷_}
 use lib.Dec.{eqb}
 use lib.ListN.{length}
 use Rattle.meaning.specs.Tables.{at}
-use Rattle.meaning.specs.Replies.{between}
 use Rattle.meaning.specs.Elimination.{fixedNumber, fixedAnswer}
+use Rattle.meaning.specs.Settings.{widthFits}
 
 -- four numbers of a table from place n on
 abbrev pub four : ℕ → List ℕ → List ℕ
@@ -23,10 +23,10 @@ fourFit matrix right answer = eqb (length matrix) 16 && (eqb (length right) 4 &&
 unfoldable pub fourNumber : ℕ → List ℕ → List ℕ → List ℕ → ℕ
 unfolding fixedNumber
 fourNumber w matrix right answer =
-    cond (between 2 64 w) (cond (fourFit matrix right answer) (fixedNumber w (square matrix) (four 0 right)) 9) 3
+    cond (widthFits w) (cond (fourFit matrix right answer) (fixedNumber w (square matrix) (four 0 right)) 9) 3
 
 -- the answer as the solver leaves it, zeros after 10, as it was after 3 and 9
 unfoldable pub fourAnswer : ℕ → List ℕ → List ℕ → List ℕ → List ℕ
 unfolding fixedAnswer
 fourAnswer w matrix right answer =
-    cond (between 2 64 w) (cond (fourFit matrix right answer) (fixedAnswer w (square matrix) (four 0 right)) answer) answer
+    cond (widthFits w) (cond (fourFit matrix right answer) (fixedAnswer w (square matrix) (four 0 right)) answer) answer

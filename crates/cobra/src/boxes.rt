@@ -10,7 +10,7 @@ ghost use Rattle.meaning.specs.Replies.{told};
 ghost use Rattle.meaning.specs.Singletons.{singletonNumber, singletonLeft};
 ghost use Rattle.demand3.specs.Settings.{ValidPasses, ValuePasses, SumPasses, ConvertPasses, Passing};
 ghost use Rattle.demand3.specs.Promises.{Judged, Valued, Summed, ToFalling, ToPowers, Normalised, Decides};
-ghost use Rattle.poly.specs.Forms.{cubeForm};
+ghost use Rattle.settings.specs.Forms.{cubeForm};
 
 // 1 at `value` where the box is a normal form, else 0.
 #[no_mangle]

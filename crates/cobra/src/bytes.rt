@@ -7,7 +7,7 @@ ghost use Rattle.meaning.specs.Replies.{told};
 ghost use Rattle.demand3.specs.Promises.{Decides, Valued};
 ghost use Rattle.weighted_poly_fit.specs.Fits.{Fits};
 ghost use Rattle.byte_calls.specs.Bytes.{decoded};
-ghost use Rattle.byte_calls.specs.Calls.{recoverNumber, recoverLeft, bytesValueReply, fitHeld, fitBytesReply, fitBytesLeft};
+ghost use Rattle.byte_calls.specs.Calls.{bytesRecoveryNumber, bytesRecoveryLeft, bytesValueReply, fitHeld, fitBytesReply, fitBytesLeft};
 ghost use Rattle.byte_calls.specs.Passing.{RecoverHolds, ValueHolds};
 
 // Recovery from the values on a grid; 6 where no polynomial of any degree has them.
@@ -21,9 +21,9 @@ pub extern "C" fn cobra_recover(
     degree: u8,
     out: &mut [u8],
 ) -> u32
-    ensures says { λ r. ⌜ r ≡ recoverNumber count total width (now (support .entry)) (cube (decoded (now (support .entry))) degree)
+    ensures says { λ r. ⌜ r ≡ bytesRecoveryNumber count total width (now (support .entry)) (cube (decoded (now (support .entry))) degree)
         (now (values .entry)) (now (out .entry)) ⌝ }
-    ensures leaves { λ r. ⌜ now (out .exit) ≡ recoverLeft count total width (now (support .entry)) (cube (decoded (now (support .entry))) degree)
+    ensures leaves { λ r. ⌜ now (out .exit) ≡ bytesRecoveryLeft count total width (now (support .entry)) (cube (decoded (now (support .entry))) degree)
         (now (values .entry)) (now (out .entry)) ⌝ }
     ensures decides { λ r. ⌜ Decides (RecoverHolds count total width (now (support .entry)) (cube (decoded (now (support .entry))) degree)
         (now (values .entry)) (now (out .entry)))

@@ -41,10 +41,7 @@ pub extern "C" fn cobra_solve_2adic_fixed(
     ensures leaves { λ r. ⌜ now (answer .exit) ≡ fourAnswer width (now (matrix .entry)) (now (right .entry)) (now (answer .entry)) ⌝ }
     ensures solves { λ r. ⌜ (r ≡ 0 → Solves width 4 (now (matrix .entry)) (now (right .entry)) (now (answer .exit))) ⌝ }
 {
-    if width < 2 {
-        return 3;
-    }
-    if 64 < width {
+    if !settings::width_fits(width) {
         return 3;
     }
     if matrix.len() != 16 {

@@ -16,8 +16,8 @@ use Rattle.meaning.specs.Values.{value, bound, Normal, boxTotal, boxReduced}
 use Rattle.meaning.specs.Integers.{residue}
 use Rattle.meaning.specs.Conversions.{fallingBox, powerBox, normalBox}
 use Rattle.meaning.specs.Recovery.{every}
-use Rattle.meaning.specs.Replies.{Reply, between}
-use Rattle.meaning.specs.Settings.{callNumber}
+use Rattle.meaning.specs.Replies.{Reply}
+use Rattle.meaning.specs.Settings.{widthFits, callNumber}
 use Rattle.meaning.specs.Calls.{reply, left, truth, validReply, valueReply, inOutNumber, sumNumber, sumLeft, reduceNumber, reduceLeft, convertLeft}
 use Rattle.theory.specs.AcceptedCalls.{number-reply}
 use Rattle.theory.specs.Congruence.{cong-of-eq, cong-sym, cong-trans, mod-cong}
@@ -30,7 +30,7 @@ use Rattle.theory.specs.ConversionLaws.{value-fallingBox, eval-powerBox, fallin
 use Rattle.theory.specs.Widths.{bound-pos}
 use Rattle.demand3.specs.Words.{boxValue, PointOf, NormalForm, SumOf}
 use Rattle.demand3.specs.Tests.{and-true, false-true, suc-zero}
-use Rattle.demand3.specs.Settings.{WidthFits, BoxPasses, ValuePasses, ReducePasses, ConvertPasses, SumPasses, ValidPasses, width-iff, call-iff}
+use Rattle.demand3.specs.Settings.{WidthFits, BoxPasses, ValuePasses, ReducePasses, ConvertPasses, SumPasses, ValidPasses, call-iff}
 use Rattle.demand3.specs.Promises.{Valued, Summed, Reduced, Judged, ToFalling, ToPowers, Normalised}
 use Rattle.demand3.specs.SameWords.{normal-iff}
 use Rattle.demand3.specs.Coefficients.{value-coefficients}
@@ -114,11 +114,11 @@ both-iff a b n c =
 
 module _ (total w : ℕ) (support ds : List ℕ) where
   passes-iff : {L : Type 0} (exact : Bool) → (exact ≡ true) ↔ L
-      → (callNumber false total (between 2 64 w) support ds exact ≡ 0) ↔ (BoxPasses total w support ds × L)
+      → (callNumber false total (widthFits w) support ds exact ≡ 0) ↔ (BoxPasses total w support ds × L)
   passes-iff exact lengths =
-      let all = call-iff false total (between 2 64 w) support ds exact in (
-        λ e. let s = all .0 e in ((s .0, width-iff w .0 (s .1)), lengths .0 (s .3)),
-        λ s. all .1 (s .0 .0, width-iff w .1 (s .0 .1), λ h. false-true (sym h), lengths .1 (s .1)),
+      let all = call-iff false total (widthFits w) support ds exact in (
+        λ e. let s = all .0 e in ((s .0, s .1), lengths .0 (s .3)),
+        λ s. all .1 (s .0 .0, s .0 .1, λ h. false-true (sym h), lengths .1 (s .1)),
       )
 
   -- the value on tables of numbers
@@ -219,23 +219,23 @@ truth-iff false = (λ e. suc-zero 0 (sym e), λ e. false-true (sym e))
 module _ (w : ℕ) (ds c : List ℕ) where
   -- the test passes exactly for a normal form at a width that fits
   test-iff : length c ≡ cells ds
-      → (between 2 64 w && every (cells ds) (λ n. ltb (at c n) (bound w (digits ds n))) ≡ true) ↔ (WidthFits w × NormalForm w ds c)
+      → (widthFits w && every (cells ds) (λ n. ltb (at c n) (bound w (digits ds n))) ≡ true) ↔ (WidthFits w × NormalForm w ds c)
   test-iff whole =
-      let both = and-true (between 2 64 w) (every (cells ds) (λ n. ltb (at c n) (bound w (digits ds n)))) in
+      let both = and-true (widthFits w) (every (cells ds) (λ n. ltb (at c n) (bound w (digits ds n)))) in
       let all = every-iff (cells ds) (λ n. ltb (at c n) (bound w (digits ds n))) in (
         λ e.
             let s = both .0 e in (
-              width-iff w .0 (s .0),
+              s .0,
               normal-iff w ds c .0 (record { whole = whole; below = λ n l. ltb-true _ _ (true-of _ (all .0 (subst T (sym (s .1)) tt) n l)) }),
             ),
-        λ s. both .1 (width-iff w .1 (s .0), true-of _ (all .1 (λ n l. subst T (sym (lt-ltb _ _ (normal-iff w ds c .1 (s .1) .below n l))) tt))),
+        λ s. both .1 (s .0, true-of _ (all .1 (λ n l. subst T (sym (lt-ltb _ _ (normal-iff w ds c .1 (s .1) .below n l))) tt))),
       )
 
   pub judged : (total : ℕ) (support : List ℕ) {answer : Reply} → answer ≡ validReply total w support ds c → Judged (ValidPasses total support ds c) w ds c answer
   unfolding validReply
   judged total support e =
       let cause = callNumber false total true support ds (eqb (length c) (cells ds)) in
-      let test = between 2 64 w && every (cells ds) (λ n. ltb (at c n) (bound w (digits ds n))) in
+      let test = widthFits w && every (cells ds) (λ n. ltb (at c n) (bound w (digits ds n))) in
       let n = ap (λ (r : Reply). r .number) e ∙ number-reply cause (truth test) in
       record {
         accepted = accepted-iff passes n;

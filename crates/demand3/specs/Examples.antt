@@ -14,6 +14,7 @@ use Rattle.meaning.specs.Values.{value, product}
 use Rattle.meaning.specs.Integers.{residue, powerℤ}
 use Rattle.meaning.specs.Polynomials.{Term, termsAt, productℤ}
 use Rattle.meaning.specs.Conversions.{normalBox}
+use Rattle.meaning.specs.Settings.{widthFits}
 use Rattle.meaning.specs.Calls.{recoveryNumber, recoveryLeft, sumLeft}
 use Rattle.demand3.specs.Words.{polynomialValue}
 
@@ -26,18 +27,18 @@ output w d v = recoveryLeft 1 w (0 ∷ []) (d ∷ []) v (tabulate (cells (d ∷ 
 
 -- the values 1 2 5 at w 8 and d 2 have the coefficients 1 1 1
 pub one-two-five : (number 8 2 (1 ∷ 2 ∷ 5 ∷ []) ≡ 0) × (output 8 2 (1 ∷ 2 ∷ 5 ∷ []) ≡ 1 ∷ 1 ∷ 1 ∷ [])
-unfolding recoveryNumber recoveryLeft cells cell digits tabulate twos factorial oddPart lifted
+unfolding widthFits recoveryNumber recoveryLeft cells cell digits tabulate twos factorial oddPart lifted
 one-two-five = (refl, refl)
 
 -- x⁴ at w 2 and d 4: from its coefficients and from its grid, 1 at the degrees 1 and 2
 pub fourth-power : (normalBox 2 (4 ∷ []) (0 ∷ 0 ∷ 0 ∷ 0 ∷ 1 ∷ []) ≡ 0 ∷ 1 ∷ 1 ∷ 0 ∷ 0 ∷ [])
     × (output 2 4 (0 ∷ 1 ∷ 0 ∷ 1 ∷ 0 ∷ []) ≡ 0 ∷ 1 ∷ 1 ∷ 0 ∷ 0 ∷ [])
-unfolding normalBox recoveryLeft cells cell digits tabulate twos factorial oddPart lifted sum stirling2
+unfolding widthFits normalBox recoveryLeft cells cell digits tabulate twos factorial oddPart lifted sum stirling2
 fourth-power = (refl, refl)
 
 -- every grid point counts: the polynomial 0 has the first two of the values 0 0 1, and they are refused
 pub last-point : number 8 2 (0 ∷ 0 ∷ 1 ∷ []) ≡ 6
-unfolding recoveryNumber cells cell digits tabulate twos factorial
+unfolding widthFits recoveryNumber cells cell digits tabulate twos factorial
 last-point = refl
 
 -- a degree above d would not do: x³ - 3x² + 2x has the values 0 0 0 on the grid, as 0 has, and 6 at 3
@@ -50,7 +51,7 @@ cubic =
 
 pub higher-degree : (map (λ (x : ℕ). polynomialValue 8 (2 ∷ []) cubic (pos x ∷ [])) (0 ∷ 1 ∷ 2 ∷ 3 ∷ []) ≡ 0 ∷ 0 ∷ 0 ∷ 6 ∷ [])
     × (output 8 2 (0 ∷ 0 ∷ 0 ∷ []) ≡ 0 ∷ 0 ∷ 0 ∷ [])
-unfolding recoveryLeft cells cell digits tabulate twos factorial oddPart lifted termsAt productℤ powerℤ residue cubic
+unfolding widthFits recoveryLeft cells cell digits tabulate twos factorial oddPart lifted termsAt productℤ powerℤ residue cubic
 higher-degree = (refl, refl)
 
 -- the bound 2^w would leave two forms: 128 times x (x - 1) is below 2^8 and has the values 0 0 0 too
@@ -61,7 +62,7 @@ larger-bound = refl
 -- a sum kept to w bits would not be a normal form: 0 0 254 and 0 0 2 have the coefficients 0 0 127 and 0 0 1, and the sum of the grids is 0 0 0
 pub kept-bits : (output 8 2 (0 ∷ 0 ∷ 254 ∷ []) ≡ 0 ∷ 0 ∷ 127 ∷ []) × (output 8 2 (0 ∷ 0 ∷ 2 ∷ []) ≡ 0 ∷ 0 ∷ 1 ∷ [])
     × (sumLeft 1 8 (0 ∷ []) (2 ∷ []) (0 ∷ 0 ∷ 127 ∷ []) (0 ∷ 0 ∷ 1 ∷ []) (7 ∷ 7 ∷ 7 ∷ []) ≡ 0 ∷ 0 ∷ 0 ∷ [])
-unfolding recoveryLeft sumLeft cells cell digits tabulate twos factorial oddPart lifted
+unfolding widthFits recoveryLeft sumLeft cells cell digits tabulate twos factorial oddPart lifted
 kept-bits = (refl, refl, refl)
 
 -- the level formula 200 - 8x + 5x²
@@ -76,11 +77,11 @@ level =
 pub too-small : (number 8 1 (200 ∷ 197 ∷ []) ≡ 0) × (output 8 1 (200 ∷ 197 ∷ []) ≡ 200 ∷ 253 ∷ [])
     × (map (λ (x : ℕ). polynomialValue 8 (1 ∷ []) level (pos x ∷ [])) (0 ∷ 1 ∷ 2 ∷ []) ≡ 200 ∷ 197 ∷ 204 ∷ [])
     × (value (2 ^ 8) (1 ∷ []) (200 ∷ 253 ∷ []) (2 ∷ []) ≡ 194)
-unfolding recoveryNumber recoveryLeft cells cell digits tabulate twos factorial oddPart lifted termsAt productℤ powerℤ residue level value product falling sum
+unfolding widthFits recoveryNumber recoveryLeft cells cell digits tabulate twos factorial oddPart lifted termsAt productℤ powerℤ residue level value product falling sum
 too-small = (refl, refl, refl, refl)
 
 -- ten readings decide at w 8, and show the formula: 200 - 3x + 5x (x - 1)
 pub deciding : (degreeCap 8 ≡ 10)
     × (output 8 9 (200 ∷ 197 ∷ 204 ∷ 221 ∷ 248 ∷ 29 ∷ 76 ∷ 133 ∷ 200 ∷ 21 ∷ []) ≡ 200 ∷ 253 ∷ 5 ∷ 0 ∷ 0 ∷ 0 ∷ 0 ∷ 0 ∷ 0 ∷ 0 ∷ [])
-unfolding recoveryLeft cells cell digits tabulate twos factorial oddPart lifted degreeCap
+unfolding widthFits recoveryLeft cells cell digits tabulate twos factorial oddPart lifted degreeCap
 deciding = (refl, refl)

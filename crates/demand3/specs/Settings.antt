@@ -5,21 +5,19 @@ use mathlib.Core.Logic.{_↔_}
 use mathlib.Core.Bool.{Bool, true, false, _&&_, cond}
 use Prim.Native.Nat.{ℕ, _≤_, _<_}
 use mathlib.Core.List.{List}
-use native.Mathlib.Nat.{le-trans}
 use native.Mathlib.Omega.{arith}
-use borrow.Author.Tests.{ltb-false, le-ltb, leb-true, le-leb, leb-false, lt-leb, eqb-true, eq-eqb, eqb-false, ne-eqb}
+use borrow.Author.Tests.{ltb-false, le-ltb, leb-false, lt-leb, eqb-true, eq-eqb, eqb-false, ne-eqb}
 use lib.Dec.{leb, ltb, eqb}
 use lib.ListN.{length}
 use Rattle.meaning.specs.Tables.{at}
 use Rattle.meaning.specs.Boxes.{cells}
-use Rattle.meaning.specs.Replies.{between}
-use Rattle.meaning.specs.Settings.{some, repeated, settingsNumber, smallNumber, callNumber}
+use Rattle.meaning.specs.Settings.{widthFits, tableLimit, some, repeated, settingsNumber, limitedNumber, callNumber}
 use Rattle.meaning.specs.Calls.{inOutNumber}
 use Rattle.demand3.specs.Tests.{false-true, and-true, cond-false, cond-true, first-zero, not-6, cond-not-6, first-not-6, none-pass, none-repeated, positive-iff}
 
--- 3: the width is 2 to 64
+-- 3: the width is one that calls take
 abbrev pub WidthFits : ℕ → Type 0
-WidthFits w = (2 ≤ w) × (w ≤ 64)
+WidthFits w = widthFits w ≡ true
 
 -- what every call on a box asks of its other settings, with the number of the refusal otherwise
 pub record Sound (limit total : ℕ) (support ds : List ℕ) : Type 0 where
@@ -48,9 +46,9 @@ pub record Passing (limit total w : ℕ) (support ds v out : List ℕ) : Type 0 
 
 -- The other calls on tables of numbers pass with these lengths.
 
--- settings of a box with the limit of 65,536 cells
+-- settings of a box with the limit of tables of numbers
 abbrev pub BoxPasses : ℕ → ℕ → List ℕ → List ℕ → Type 0
-BoxPasses total w support ds = Sound 65536 total support ds × WidthFits w
+BoxPasses total w support ds = Sound tableLimit total support ds × WidthFits w
 
 -- the coefficients c and a point xs
 abbrev pub ValuePasses : ℕ → ℕ → List ℕ → List ℕ → List ℕ → List ℕ → Type 0
@@ -70,16 +68,9 @@ SumPasses total w support ds a b out = BoxPasses total w support ds × ((length 
 
 -- coefficients at any width
 abbrev pub ValidPasses : ℕ → List ℕ → List ℕ → List ℕ → Type 0
-ValidPasses total support ds c = Sound 65536 total support ds × (length c ≡ cells ds)
+ValidPasses total support ds c = Sound tableLimit total support ds × (length c ≡ cells ds)
 
 -- ---- the settings
-
-pub width-iff : (w : ℕ) → (between 2 64 w ≡ true) ↔ WidthFits w
-width-iff w =
-    let both = and-true (leb 2 w) (leb w 64) in (
-      λ e. (leb-true 2 w (both .0 e .0), leb-true w 64 (both .0 e .1)),
-      λ f. both .1 (le-leb 2 w (f .0), le-leb w 64 (f .1)),
-    )
 
 -- no degree is 0, where that is asked
 degrees-iff : (strict : Bool) (ds : List ℕ) → (strict && some (eqb 0) ds ≡ false) ↔ (strict ≡ true → NoZero ds)
@@ -92,11 +83,12 @@ degrees-iff false ds = (λ e h. false-true (sym h), λ h. refl)
 
 module _ (strict : Bool) (total : ℕ) (fits : Bool) (support ds : List ℕ) where
   -- the settings pass exactly when none of the causes applies
-  pub settings-iff : (settingsNumber strict total fits support ds ≡ 0) ↔ (Sound 65536 total support ds × (fits ≡ true) × (strict ≡ true → NoZero ds))
-  unfolding settingsNumber
-  settings-iff = (there, back)
+  pub limited-iff : (limit : ℕ)
+      → (limitedNumber limit strict total fits support ds ≡ 0) ↔ (Sound limit total support ds × (fits ≡ true) × (strict ≡ true → NoZero ds))
+  unfolding limitedNumber
+  limited-iff limit = (there, back)
     where
-      there : settingsNumber strict total fits support ds ≡ 0 → Sound 65536 total support ds × (fits ≡ true) × (strict ≡ true → NoZero ds)
+      there : limitedNumber limit strict total fits support ds ≡ 0 → Sound limit total support ds × (fits ≡ true) × (strict ≡ true → NoZero ds)
       there e =
           let a = cond-false (eqb (length support) 0) 0 _ .0 e in
           let b = cond-false (ltb 20 total) 1 _ .0 (a .1) in
@@ -104,19 +96,19 @@ module _ (strict : Bool) (total : ℕ) (fits : Bool) (support ds : List ℕ) whe
           let d = cond-false (strict && some (eqb 0) ds) 3 _ .0 (c .1) in
           let f = cond-false (some (leb total) support) 4 _ .0 (d .1) in
           let g = cond-false (repeated support) 6 _ .0 (f .1) in
-          let h = cond-false (ltb 65536 (cells ds)) 7 _ .0 (g .1) in (
+          let h = cond-false (ltb limit (cells ds)) 7 _ .0 (g .1) in (
             record {
               variable = positive-iff (length support) .0 (a .0);
               few = ltb-false 20 total (b .0);
               indices = λ i l. leb-false total (at support i) (none-pass (leb total) support .0 (f .0) i l);
               distinct = none-repeated support .0 (g .0);
-              size = ltb-false 65536 (cells ds) (h .0);
+              size = ltb-false limit (cells ds) (h .0);
             },
             c .0,
             degrees-iff strict ds .0 (d .0),
           )
 
-      back : Sound 65536 total support ds × (fits ≡ true) × (strict ≡ true → NoZero ds) → settingsNumber strict total fits support ds ≡ 0
+      back : Sound limit total support ds × (fits ≡ true) × (strict ≡ true → NoZero ds) → limitedNumber limit strict total fits support ds ≡ 0
       back (s, e, h) =
           cond-false (eqb (length support) 0) 0 _ .1 (
             positive-iff (length support) .1 (s .variable),
@@ -129,79 +121,58 @@ module _ (strict : Bool) (total : ℕ) (fits : Bool) (support ds : List ℕ) whe
                   cond-false (some (leb total) support) 4 _ .1 (
                     none-pass (leb total) support .1 (λ i l. lt-leb total (at support i) (s .indices i l)),
                     cond-false (repeated support) 6 _ .1
-                        (none-repeated support .1 (s .distinct), cond-false (ltb 65536 (cells ds)) 7 _ .1 (le-ltb 65536 (cells ds) (s .size), refl)),
+                        (none-repeated support .1 (s .distinct), cond-false (ltb limit (cells ds)) 7 _ .1 (le-ltb limit (cells ds) (s .size), refl)),
                   ),
                 ),
               ),
             ),
           )
 
-  -- and so with the limit of 4,096 cells
-  pub small-iff : (smallNumber strict total fits support ds ≡ 0) ↔ (Sound 4096 total support ds × (fits ≡ true) × (strict ≡ true → NoZero ds))
-  small-iff =
-      let both = first-zero (settingsNumber strict total fits support ds) (cond (ltb 4096 (cells ds)) 8 0) in
-      let limit = cond-false (ltb 4096 (cells ds)) 7 0 in (
-        λ e.
-            let s = settings-iff .0 (both .0 e .0) in
-            (lowered 4096 (s .0) (ltb-false 4096 (cells ds) (limit .0 (both .0 e .1) .0)), s .1, s .2),
-        λ s.
-            let l : cells ds ≤ 65536 = le-trans (s .0 .size) (omega arith) in
-            both .1 (settings-iff .1 (lowered 65536 (s .0) l, s .1, s .2), limit .1 (le-ltb 4096 (cells ds) (s .0 .size), refl)),
-      )
-    where
-      lowered : (limit : ℕ) {other : ℕ} → Sound other total support ds → cells ds ≤ limit → Sound limit total support ds
-      lowered limit s l = record { variable = s .variable; few = s .few; indices = s .indices; distinct = s .distinct; size = l }
-
   -- with exact lengths besides
   pub call-iff : (exact : Bool)
-      → (callNumber strict total fits support ds exact ≡ 0) ↔ (Sound 65536 total support ds × (fits ≡ true) × (strict ≡ true → NoZero ds) × (exact ≡ true))
+      → (callNumber strict total fits support ds exact ≡ 0) ↔ (Sound tableLimit total support ds × (fits ≡ true) × (strict ≡ true → NoZero ds) × (exact ≡ true))
   unfolding callNumber
   call-iff exact =
       let both = first-zero (settingsNumber strict total fits support ds) (cond exact 0 9) in
       let lengths = cond-true exact 8 0 in (
-        λ e. let s = settings-iff .0 (both .0 e .0) in (s .0, s .1, s .2, lengths .0 (both .0 e .1) .0),
-        λ s. both .1 (settings-iff .1 (s .0, s .1, s .2), lengths .1 (s .3, refl)),
+        λ e. let s = limited-iff tableLimit .0 (both .0 e .0) in (s .0, s .1, s .2, lengths .0 (both .0 e .1) .0),
+        λ s. both .1 (limited-iff tableLimit .1 (s .0, s .1, s .2), lengths .1 (s .3, refl)),
       )
 
   -- none of these numbers is 6
-  settings-not-6 : settingsNumber strict total fits support ds ≡ 6 → ⊥
-  unfolding settingsNumber
-  settings-not-6 =
+  pub limited-not-6 : (limit : ℕ) → limitedNumber limit strict total fits support ds ≡ 6 → ⊥
+  unfolding limitedNumber
+  limited-not-6 limit =
       cond-not-6 (eqb (length support) 0) (not-6 1 tt)
       (cond-not-6 (ltb 20 total) (not-6 2 tt)
       (cond-not-6 fits
       (cond-not-6 (strict && some (eqb 0) ds) (not-6 4 tt)
       (cond-not-6 (some (leb total) support) (not-6 5 tt)
       (cond-not-6 (repeated support) (not-6 7 tt)
-      (cond-not-6 (ltb 65536 (cells ds)) (not-6 8 tt) (not-6 0 tt))))) (not-6 3 tt)))
-
-  pub small-not-6 : smallNumber strict total fits support ds ≡ 6 → ⊥
-  small-not-6 =
-      first-not-6 (settingsNumber strict total fits support ds) (cond (ltb 4096 (cells ds)) 8 0) settings-not-6
-      (cond-not-6 (ltb 4096 (cells ds)) (not-6 8 tt) (not-6 0 tt))
+      (cond-not-6 (ltb limit (cells ds)) (not-6 8 tt) (not-6 0 tt))))) (not-6 3 tt)))
 
   call-not-6 : (exact : Bool) → callNumber strict total fits support ds exact ≡ 6 → ⊥
   unfolding callNumber
   call-not-6 exact =
-      first-not-6 (settingsNumber strict total fits support ds) (cond exact 0 9) settings-not-6 (cond-not-6 exact (not-6 0 tt) (not-6 9 tt))
+      first-not-6 (settingsNumber strict total fits support ds) (cond exact 0 9) (limited-not-6 tableLimit) (cond-not-6 exact (not-6 0 tt) (not-6 9 tt))
 
 -- recovery passes exactly when none of the causes before 6 applies
-pub passing-iff : (total w : ℕ) (support ds v out : List ℕ) → (inOutNumber true total w support ds v out ≡ 0) ↔ Passing 65536 total w support ds v out
+pub passing-iff : (total w : ℕ) (support ds v out : List ℕ) → (inOutNumber true total w support ds v out ≡ 0) ↔ Passing tableLimit total w support ds v out
 passing-iff total w support ds v out =
-    let all = call-iff true total (between 2 64 w) support ds (eqb (length v) (cells ds) && eqb (length out) (cells ds)) in
+    let all = call-iff true total (widthFits w) support ds (eqb (length v) (cells ds) && eqb (length out) (cells ds)) in
     let exact = and-true (eqb (length v) (cells ds)) (eqb (length out) (cells ds)) in (
       λ e.
           let s = all .0 e in
           record {
             sound = s .0;
-            width = width-iff w .0 (s .1);
+            width = s .1;
             degrees = s .2 refl;
             values = eqb-true (length v) (cells ds) (exact .0 (s .3) .0);
             output = eqb-true (length out) (cells ds) (exact .0 (s .3) .1);
           },
       λ s. all .1 (
         s .sound,
-        width-iff w .1 (s .width),
+        s .width,
         λ h. s .degrees,
         exact .1 (eq-eqb (length v) (cells ds) (s .values), eq-eqb (length out) (cells ds) (s .output)),
       ),
@@ -209,4 +180,4 @@ passing-iff total w support ds v out =
 
 pub passing-not-6 : (total w : ℕ) (support ds v out : List ℕ) → inOutNumber true total w support ds v out ≡ 6 → ⊥
 passing-not-6 total w support ds v out =
-    call-not-6 true total (between 2 64 w) support ds (eqb (length v) (cells ds) && eqb (length out) (cells ds))
+    call-not-6 true total (widthFits w) support ds (eqb (length v) (cells ds) && eqb (length out) (cells ds))

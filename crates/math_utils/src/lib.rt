@@ -64,10 +64,7 @@ fn least_degree(bitwidth: u32) -> u32
 pub fn degree_cap(bitwidth: u32) -> Number
     ensures { λ r. ⌜ said r ≡ capReply bitwidth ⌝ }
 {
-    if bitwidth < 2 {
-        return Number::Refused(Refusal::OutOfRange);
-    }
-    if 64 < bitwidth {
+    if !settings::width_fits(bitwidth) {
         return Number::Refused(Refusal::OutOfRange);
     }
     Number::Value(least_degree(bitwidth) as u64)

@@ -71,10 +71,7 @@ fn build(kind: Kind, max_degree: u8, bitwidth: u32, lent: &mut [u64]) -> Outcome
     ensures says { λ r. ⌜ saidNumber r ≡ stirlingNumber «max_degree» bitwidth (length (now (lent .entry))) ⌝ }
     ensures leaves { λ r. ⌜ now (lent .exit) ≡ stirlingLeft «max_degree» bitwidth (table kind «max_degree» bitwidth) (now (lent .entry)) ⌝ }
 {
-    if bitwidth < 2 {
-        return Outcome::Refused(Refusal::OutOfRange);
-    }
-    if 64 < bitwidth {
+    if !settings::width_fits(bitwidth) {
         return Outcome::Refused(Refusal::OutOfRange);
     }
     let side = max_degree as usize + 1;

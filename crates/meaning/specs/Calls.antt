@@ -8,8 +8,8 @@ use Rattle.meaning.specs.Tables.{tabulate, at}
 use Rattle.meaning.specs.Boxes.{cells, digits}
 use Rattle.meaning.specs.Values.{value, bound, boxTotal, boxReduced}
 use Rattle.meaning.specs.Recovery.{every, accepts, answer}
-use Rattle.meaning.specs.Replies.{Reply, accepted, refused, between}
-use Rattle.meaning.specs.Settings.{settingsNumber, callNumber, first}
+use Rattle.meaning.specs.Replies.{Reply, accepted, refused}
+use Rattle.meaning.specs.Settings.{widthFits, settingsNumber, limitedNumber, callNumber, first}
 
 -- an accepted value where the number is 0, else a refusal
 abbrev pub reply : ℕ → ℕ → Reply
@@ -35,15 +35,15 @@ sameList (x ∷ xs) (y ∷ ys) = eqb x y && sameList xs ys
 
 -- the settings alone: their cells
 unfoldable pub settingsReply : Bool → ℕ → ℕ → List ℕ → List ℕ → Reply
-unfolding settingsNumber
-settingsReply strict total w support ds = reply (settingsNumber strict total (between 2 64 w) support ds) (cells ds)
+unfolding limitedNumber
+settingsReply strict total w support ds = reply (settingsNumber strict total (widthFits w) support ds) (cells ds)
 
 -- is_valid: every coefficient, read whole, is below its bound. A bad width is a no, and no cause of refusal.
 unfoldable pub validReply : ℕ → ℕ → List ℕ → List ℕ → List ℕ → Reply
 unfolding callNumber every bound
 validReply total w support ds c =
     reply (callNumber false total true support ds (eqb (length c) (cells ds)))
-    (truth (between 2 64 w && every (cells ds) (λ n. ltb (at c n) (bound w (digits ds n)))))
+    (truth (widthFits w && every (cells ds) (λ n. ltb (at c n) (bound w (digits ds n)))))
 
 -- a form: settings and coefficients
 pub record Form : Type 0 where
@@ -55,7 +55,7 @@ pub record Form : Type 0 where
 
 abbrev pub formNumber : Form → ℕ
 formNumber f =
-    callNumber false (f .total) (between 2 64 (f .width)) (f .support) (f .degrees) (eqb (length (f .coefficients)) (cells (f .degrees)))
+    callNumber false (f .total) (widthFits (f .width)) (f .support) (f .degrees) (eqb (length (f .coefficients)) (cells (f .degrees)))
 
 -- sameness: the first form is checked, then the second; a yes exactly when total, width, support in order, degrees and coefficients are equal
 unfoldable pub sameReply : Form → Form → Reply
@@ -73,19 +73,19 @@ sameReply f g =
 unfoldable pub valueReply : ℕ → ℕ → List ℕ → List ℕ → List ℕ → List ℕ → Reply
 unfolding callNumber value
 valueReply total w support ds c xs =
-    reply (callNumber false total (between 2 64 w) support ds (eqb (length c) (cells ds) && eqb (length xs) (length support)))
+    reply (callNumber false total (widthFits w) support ds (eqb (length c) (cells ds) && eqb (length xs) (length support)))
     (value (2 ^ w) ds c xs)
 
 -- a call with one table in and one out, both of the box's length
 abbrev pub inOutNumber : Bool → ℕ → ℕ → List ℕ → List ℕ → List ℕ → List ℕ → ℕ
 inOutNumber strict total w support ds c out =
-    callNumber strict total (between 2 64 w) support ds (eqb (length c) (cells ds) && eqb (length out) (cells ds))
+    callNumber strict total (widthFits w) support ds (eqb (length c) (cells ds) && eqb (length out) (cells ds))
 
 -- the sum of two boxes
 unfoldable pub sumNumber : ℕ → ℕ → List ℕ → List ℕ → List ℕ → List ℕ → List ℕ → ℕ
 unfolding callNumber
 sumNumber total w support ds a b out =
-    callNumber false total (between 2 64 w) support ds
+    callNumber false total (widthFits w) support ds
     (eqb (length a) (cells ds) && eqb (length b) (cells ds) && eqb (length out) (cells ds))
 
 unfoldable pub sumLeft : ℕ → ℕ → List ℕ → List ℕ → List ℕ → List ℕ → List ℕ → List ℕ
@@ -95,7 +95,7 @@ sumLeft total w support ds a b out = left (sumNumber total w support ds a b out)
 -- each coefficient of a box taken modulo its bound, in place
 unfoldable pub reduceNumber : ℕ → ℕ → List ℕ → List ℕ → List ℕ → ℕ
 unfolding callNumber
-reduceNumber total w support ds c = callNumber false total (between 2 64 w) support ds (eqb (length c) (cells ds))
+reduceNumber total w support ds c = callNumber false total (widthFits w) support ds (eqb (length c) (cells ds))
 
 unfoldable pub reduceLeft : ℕ → ℕ → List ℕ → List ℕ → List ℕ → List ℕ
 unfolding reduceNumber boxReduced bound

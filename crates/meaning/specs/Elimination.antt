@@ -11,8 +11,7 @@ use Rattle.meaning.specs.Factorials.{twosIn}
 use Rattle.meaning.specs.Inverses.{inverse}
 use Rattle.meaning.specs.Differences.{minus}
 use Rattle.meaning.specs.Recovery.{every}
-use Rattle.meaning.specs.Replies.{between}
-use Rattle.meaning.specs.Settings.{first}
+use Rattle.meaning.specs.Settings.{widthFits, tableLimit, first}
 use Rattle.meaning.specs.Calls.{left}
 
 -- for an entry P with t twos, and E that 2^t divides: the number below 2^(w - t) whose product with P is E modulo 2^w, which is E / 2^t times
@@ -142,8 +141,8 @@ solverRows cols mat = length mat / cols
 unfoldable pub solverCause : ℕ → ℕ → List ℕ → List ℕ → List ℕ → ℕ
 unfolding solverRows
 solverCause w cols mat rhs answer =
-    cond (between 2 64 w)
-    (cond (ltb 65536 (length mat) || ltb 65536 cols) 8
+    cond (widthFits w)
+    (cond (ltb tableLimit (length mat) || ltb tableLimit cols) 8
     (cond
     (ltb 0 cols
     && eqb (solverRows cols mat * cols) (length mat)

@@ -11,8 +11,8 @@ use Rattle.meaning.specs.Factorials.{falling}
 use Rattle.meaning.specs.Boxes.{cells, digits}
 use Rattle.meaning.specs.Values.{product, bound}
 use Rattle.meaning.specs.Leaves.{largest}
-use Rattle.meaning.specs.Replies.{Reply, between}
-use Rattle.meaning.specs.Settings.{cube, settingsNumber, first}
+use Rattle.meaning.specs.Replies.{Reply}
+use Rattle.meaning.specs.Settings.{widthFits, tableLimit, cube, settingsNumber, limitedNumber, first}
 use Rattle.meaning.specs.Calls.{reply, left, sameList}
 use Rattle.meaning.specs.Elimination.{State, eliminated, substituted, succeeds}
 
@@ -122,10 +122,10 @@ fitColumns f = columns (f .degrees) (f .most)
 -- the number of the first cause before anything is eliminated, in the order 1, 2, 3, 5, 7, 8, 9, or 0. 8 is for a grid, and for a matrix, of more
 -- than 65,536 entries: as there is always a column, and no degree of the answer's box is above the grid's, a box that is too large is among them.
 unfoldable pub fitCause : Fit → ℕ
-unfolding settingsNumber columns cells
+unfolding limitedNumber columns cells
 fitCause f =
-    first (settingsNumber false (f .variables) (between 2 64 (f .width)) (f .support) (f .grid))
-    (first (cond (ltb 65536 (fitRows f * length (fitColumns f))) 8 0)
+    first (settingsNumber false (f .variables) (widthFits (f .width)) (f .support) (f .grid))
+    (first (cond (ltb tableLimit (fitRows f * length (fitColumns f))) 8 0)
     (cond
     (eqb (length (f .weights)) (fitRows f)
     && eqb (length (f .targets)) (fitRows f)

@@ -11,10 +11,11 @@ use Rattle.meaning.specs.Inverses.{inverse}
 use Rattle.meaning.specs.Integers.{residue}
 use Rattle.meaning.specs.Stirling.{stirling1, stirling2}
 use Rattle.meaning.specs.Replies.{Reply, accepted, refused, between}
+use Rattle.meaning.specs.Settings.{widthFits}
 
 -- the least degree whose factorial has w twos, for widths 2 to 64
 abbrev pub capReply : ℕ → Reply
-capReply w = cond (between 2 64 w) (accepted (degreeCap w)) (refused 11)
+capReply w = cond (widthFits w) (accepted (degreeCap w)) (refused 11)
 
 -- the odd part of k! modulo 2^w, for k to 255 and widths 1 to 64
 abbrev pub oddPartReply : ℕ → ℕ → Reply
@@ -33,11 +34,11 @@ stirling1Table n w = tabulate (suc n * suc n) (λ c. residue (2 ^ w) (stirling1 
 
 -- the number that a Stirling table's filling answers, for a lent table of the given length
 abbrev pub stirlingNumber : ℕ → ℕ → ℕ → ℕ
-stirlingNumber n w size = cond (between 2 64 w) (cond (eqb size (suc n * suc n)) 0 9) 11
+stirlingNumber n w size = cond (widthFits w) (cond (eqb size (suc n * suc n)) 0 9) 11
 
 -- what it leaves in the lent table: the Stirling table where it is accepted, else what was there
 abbrev pub stirlingLeft : ℕ → ℕ → List ℕ → List ℕ → List ℕ
-stirlingLeft n w filled lent = cond (between 2 64 w && eqb (length lent) (suc n * suc n)) filled lent
+stirlingLeft n w filled lent = cond (widthFits w && eqb (length lent) (suc n * suc n)) filled lent
 
 -- the largest of the first n entries, 0 if there is none
 unfoldable pub largest : ℕ → (ℕ → ℕ) → ℕ

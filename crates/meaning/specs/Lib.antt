@@ -13,8 +13,8 @@ pub mod Differences
 pub mod Conversions
 pub mod Recovery
 pub mod Replies
-pub mod Leaves
 pub mod Settings
+pub mod Leaves
 pub mod Calls
 pub mod Singletons
 pub mod Elimination

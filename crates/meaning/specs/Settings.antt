@@ -5,6 +5,18 @@ use mathlib.Core.List.{List, [], _∷_}
 use lib.Dec.{leb, ltb, eqb}
 use lib.ListN.{length, replicate}
 use Rattle.meaning.specs.Boxes.{cells}
+use Rattle.meaning.specs.Replies.{between}
+
+-- the widths that the calls take
+unfoldable pub widthFits : ℕ → Bool
+widthFits w = between 2 64 w
+
+-- the most entries of a table of numbers, and of a table of bytes or of the bench program
+abbrev pub tableLimit : ℕ
+tableLimit = 65536
+
+abbrev pub byteLimit : ℕ
+byteLimit = 4096
 
 -- the degree list of a box with the one degree d
 abbrev pub cube : List ℕ → ℕ → List ℕ
@@ -21,30 +33,33 @@ unfolding some
 repeated [] = false
 repeated (x ∷ xs) = some (eqb x) xs || repeated xs
 
--- the number of the first cause, in the order 1, 2, 3, 4, 5, 7, 8, or 0 where there is none; `strict` says that no degree may be 0, `fits` that
--- the width does
-unfoldable pub settingsNumber : Bool → ℕ → Bool → List ℕ → List ℕ → ℕ
+-- the number of the first cause, in the order 1, 2, 3, 4, 5, 7, 8, or 0 where there is none; a box above `limit` cells is 8, `strict` says that no
+-- degree may be 0, `fits` that the width does
+unfoldable pub limitedNumber : ℕ → Bool → ℕ → Bool → List ℕ → List ℕ → ℕ
 unfolding some repeated
-settingsNumber strict total fits support ds =
+limitedNumber limit strict total fits support ds =
     cond (eqb (length support) 0) 1
     (cond (ltb 20 total) 2
     (cond fits
     (cond (strict && some (eqb 0) ds) 4
     (cond (some (leb total) support) 5
     (cond (repeated support) 7
-    (cond (ltb 65536 (cells ds)) 8 0))))
+    (cond (ltb limit (cells ds)) 8 0))))
     3))
+
+-- with the limit of tables of numbers, and with that of tables of bytes
+abbrev pub settingsNumber : Bool → ℕ → Bool → List ℕ → List ℕ → ℕ
+settingsNumber strict total fits support ds = limitedNumber tableLimit strict total fits support ds
+
+abbrev pub smallNumber : Bool → ℕ → Bool → List ℕ → List ℕ → ℕ
+smallNumber strict total fits support ds = limitedNumber byteLimit strict total fits support ds
 
 -- the first number where it is one, else the second
 abbrev pub first : ℕ → ℕ → ℕ
 first zero k = k
 first (suc n) k = suc n
 
--- the same where a box above 4,096 cells is 8
-abbrev pub smallNumber : Bool → ℕ → Bool → List ℕ → List ℕ → ℕ
-smallNumber strict total fits support ds = first (settingsNumber strict total fits support ds) (cond (ltb 4096 (cells ds)) 8 0)
-
 -- then 9 where a lent table does not have its exact length
 unfoldable pub callNumber : Bool → ℕ → Bool → List ℕ → List ℕ → Bool → ℕ
-unfolding settingsNumber
+unfolding limitedNumber
 callNumber strict total fits support ds exact = first (settingsNumber strict total fits support ds) (cond exact 0 9)

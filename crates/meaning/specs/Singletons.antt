@@ -6,9 +6,8 @@ use lib.Dec.{ltb, eqb}
 use lib.ListN.{length, take, drop}
 use Rattle.meaning.specs.Tables.{tabulate, at}
 use Rattle.meaning.specs.Factorials.{degreeCap}
-use Rattle.meaning.specs.Replies.{between}
 use Rattle.meaning.specs.Recovery.{every, accepts, answer}
-use Rattle.meaning.specs.Settings.{first}
+use Rattle.meaning.specs.Settings.{widthFits, first}
 use Rattle.meaning.specs.Calls.{left}
 
 -- the degree list of one variable with the given number of cells
@@ -35,7 +34,7 @@ unfoldable pub singletonSettings : ℕ → ℕ → List ℕ → List ℕ → ℕ
 unfolding degreeCap
 singletonSettings n w v out =
     cond (ltb 20 n) 2
-    (cond (between 2 64 w) (cond (eqb (length v) (n * degreeCap w) && eqb (length out) (n * degreeCap w)) 0 9) 3)
+    (cond (widthFits w) (cond (eqb (length v) (n * degreeCap w) && eqb (length out) (n * degreeCap w)) 0 9) 3)
 
 -- then 6 where a difference does not pass
 unfoldable pub singletonNumber : ℕ → ℕ → List ℕ → List ℕ → ℕ

@@ -42,7 +42,7 @@ pub(crate) fn recover_checked(
     ensures says { λ r. ⌜ saidNumber r ≡ recoveryNumber total bitwidth (now (support .entry)) (cube (now (support .entry)) «max_degree») (now (values .entry)) (now (out .entry)) ⌝ }
     ensures leaves { λ r. ⌜ now (out .exit) ≡ recoveryLeft total bitwidth (now (support .entry)) (cube (now (support .entry)) «max_degree») (now (values .entry)) (now (out .entry)) ⌝ }
 {
-    match poly::check_tables(true, support, total, bitwidth, max_degree, values, out) {
+    match settings::check_tables(true, support, total, bitwidth, max_degree, values, out) {
         Outcome::Refused(refusal) => Outcome::Refused(refusal),
         Outcome::Accepted => {
             let degrees = [max_degree; 20];

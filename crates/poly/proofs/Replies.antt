@@ -9,11 +9,11 @@ use lib.ListN.{length}
 use Rattle.meaning.specs.Boxes.{cells}
 use Rattle.meaning.specs.Values.{value, bound, boxTotal, boxReduced}
 use Rattle.meaning.specs.Recovery.{every}
-use Rattle.meaning.specs.Replies.{Reply, accepted, refused, between}
-use Rattle.meaning.specs.Settings.{callNumber, first}
+use Rattle.meaning.specs.Replies.{Reply, accepted, refused}
+use Rattle.meaning.specs.Settings.{tableLimit, widthFits, callNumber, first}
 use Rattle.meaning.specs.Calls.{reply, truth, Form, formNumber, sameList, left}
 use Rattle.meaning.specs.Calls.{validReply, valueReply, sameReply, sumNumber, sumLeft, reduceNumber, reduceLeft}
-use Rattle.theory.specs.Settings.{passes}
+use Rattle.settings.specs.Causes.{passes}
 use Rattle.theory.specs.BoxBounds.{isBelow}
 use Rattle.demand3.specs.Settings.{ValuePasses, ValidPasses, SumPasses, ReducePasses}
 use Rattle.demand3.specs.Promises.{Valued, Judged, Summed, Reduced}
@@ -21,7 +21,8 @@ use Rattle.demand3.specs.BoxCalls.{table-valued, judged, summed, reduced}
 use Rattle.demand3.specs.Also.{also, also₂}
 use Rattle.answers.specs.declared.Refusal.{Refusal}
 use Rattle.answers.specs.Said.{code}
-use Rattle.answers.specs.Laws.{Settled, Unsettled, unsettled-call, reply-code, first-code, turned-reply, turned-left, settled-number, length-reply, length-left, accepted-reply, accepted-left}
+use Rattle.answers.specs.Laws.{reply-code, first-code}
+use Rattle.settings.specs.Settled.{Settled, Unsettled, unsettled-call, turned-reply, turned-left, settled-number, length-reply, length-left, accepted-reply, accepted-left}
 
 -- ---- the value
 
@@ -32,13 +33,13 @@ ValueSaid total w support ds c xs r =
     × Valued (ValuePasses total w support ds c xs) w ds c xs r
 
 module _ (w : ℕ) (c xs : List ℕ) {total : ℕ} {support ds : List ℕ} where
-  pub value-turned : {r : Refusal} → Unsettled false total (between 2 64 w) support ds r → ValueSaid total w support ds c xs (refused (code r))
+  pub value-turned : {r : Refusal} → Unsettled false total (widthFits w) support ds r → ValueSaid total w support ds c xs (refused (code r))
   unfolding valueReply
   value-turned u =
       also (table-valued total w support ds c xs)
       (turned-reply u (eqb (length c) (cells ds) && eqb (length xs) (length support)) (value (2 ^ w) ds c xs))
 
-  module _ {count : ℕ} (s : Settled false total (between 2 64 w) support ds count) where
+  module _ {count : ℕ} (s : Settled false total (widthFits w) support ds count) where
     pub value-lengths : (eqb (length c) (cells ds) && eqb (length xs) (length support)) ≡ false → ValueSaid total w support ds c xs (refused 9)
     unfolding valueReply
     value-lengths e =
@@ -56,7 +57,7 @@ module _ (w : ℕ) (c xs : List ℕ) {total : ℕ} {support ds : List ℕ} where
 
 -- the test of a normal form
 abbrev pub isNormal : ℕ → List ℕ → List ℕ → Bool
-isNormal w ds c = between 2 64 w && every (cells ds) (isBelow w ds c)
+isNormal w ds c = widthFits w && every (cells ds) (isBelow w ds c)
 
 abbrev ValidSaid : ℕ → ℕ → List ℕ → List ℕ → List ℕ → Reply → Type 0
 ValidSaid total w support ds c r = (r ≡ validReply total w support ds c) × Judged (ValidPasses total support ds c) w ds c r
@@ -100,14 +101,14 @@ SumSaid total w support ds a b out n t =
     (n ≡ sumNumber total w support ds a b out) × ((t ≡ sumLeft total w support ds a b out) × Summed (SumPasses total w support ds a b out) w ds a b n t)
 
 module _ (w : ℕ) (a b out : List ℕ) {total : ℕ} {support ds : List ℕ} where
-  pub sum-turned : {r : Refusal} → Unsettled false total (between 2 64 w) support ds r
+  pub sum-turned : {r : Refusal} → Unsettled false total (widthFits w) support ds r
       → SumSaid total w support ds a b out (code r) out
   unfolding sumNumber sumLeft
   sum-turned u =
       also₂ (summed total w support ds a b out)
       (table-turned (eqb (length a) (cells ds) && eqb (length b) (cells ds) && eqb (length out) (cells ds)) (boxTotal (bound w) ds a b) out u)
 
-  module _ {count : ℕ} (s : Settled false total (between 2 64 w) support ds count) where
+  module _ {count : ℕ} (s : Settled false total (widthFits w) support ds count) where
     pub sum-lengths : (eqb (length a) (cells ds) && eqb (length b) (cells ds) && eqb (length out) (cells ds)) ≡ false
         → SumSaid total w support ds a b out 9 out
     unfolding sumNumber sumLeft
@@ -128,12 +129,12 @@ ReduceSaid total w support ds c n t =
     (n ≡ reduceNumber total w support ds c) × ((t ≡ reduceLeft total w support ds c) × Reduced (ReducePasses total w support ds c) w ds c n t)
 
 module _ (w : ℕ) (c : List ℕ) {total : ℕ} {support ds : List ℕ} where
-  pub reduce-turned : {r : Refusal} → Unsettled false total (between 2 64 w) support ds r
+  pub reduce-turned : {r : Refusal} → Unsettled false total (widthFits w) support ds r
       → ReduceSaid total w support ds c (code r) c
   unfolding reduceNumber reduceLeft
   reduce-turned u = also₂ (reduced total w support ds c) (table-turned (eqb (length c) (cells ds)) (boxReduced (bound w) ds c) c u)
 
-  module _ {count : ℕ} (s : Settled false total (between 2 64 w) support ds count) where
+  module _ {count : ℕ} (s : Settled false total (widthFits w) support ds count) where
     pub reduce-length : eqb (length c) (cells ds) ≡ false → ReduceSaid total w support ds c 9 c
     unfolding reduceNumber reduceLeft
     reduce-length e = also₂ (reduced total w support ds c) (table-lengths (eqb (length c) (cells ds)) (boxReduced (bound w) ds c) c s e)
@@ -174,7 +175,7 @@ module _ (f g : Form) where
     pub form-filled : 0 < length (f .support)
     unfolding callNumber
     form-filled =
-        passes false (f .total) (between 2 64 (f .width)) (f .support) (f .degrees) (settings-pass _ _ (sym p)) .not-empty
+        passes tableLimit false (f .total) (widthFits (f .width)) (f .support) (f .degrees) (settings-pass _ _ (sym p)) .not-empty
       where
         settings-pass : (n k : ℕ) → first n k ≡ 0 → n ≡ 0
         settings-pass zero k e = refl

@@ -1,35 +1,20 @@
-// Boxes of coefficients: the check of settings that all calls share, validity, sameness, value at a point, sum.
+// Boxes of coefficients: validity, sameness, value at a point, sum.
 ghost use mathlib.Core.Path.{_≡_};
 ghost use Rattle.meaning.specs.Settings.{cube};
-ghost use Rattle.meaning.specs.Calls.{settingsReply, formNumber, validReply, sameReply, sameList, valueReply, sumNumber, sumLeft, inOutNumber, reduceNumber, reduceLeft};
+ghost use Rattle.meaning.specs.Calls.{validReply, sameReply, sameList, valueReply, sumNumber, sumLeft, reduceNumber, reduceLeft};
 ghost use Rattle.demand3.specs.Settings.{ValuePasses, ValidPasses, SumPasses, ReducePasses};
 ghost use Rattle.demand3.specs.Promises.{Valued, Judged, Summed, Reduced};
 ghost use Rattle.answers.specs.Said.{said, saidNumber, saidTruth};
-ghost use Rattle.poly.specs.Forms.{cubeForm};
+ghost use Rattle.settings.specs.Forms.{cubeForm};
 
 mod cells;
-pub mod checks;
 
 use answers::Number;
 use answers::Outcome;
 use answers::Refusal;
 use answers::Truth;
 
-// The settings of a call: the number of cells of the box, or the first cause to turn the call down, in the order 1, 2, 3, 4, 5, 7, 8. `strict` says that
-// degree 0 is turned down (4).
-pub fn settings(strict: bool, support: &[u64], total: u32, bitwidth: u32, max_degree: u8) -> Number
-    ensures { λ r. ⌜ said r ≡ settingsReply strict total bitwidth (now (support .entry)) (cube (now (support .entry)) «max_degree») ⌝ }
-{
-    checks::check(
-        strict,
-        support,
-        total,
-        checks::width_fits(bitwidth),
-        max_degree,
-    )
-}
-
-// Whether a box of coefficients is a normal form: the width is 2 to 64 and every coefficient, read whole, is below 2^(width - q), q being the twos in the
+// Whether a box of coefficients is a normal form: the width fits and every coefficient, read whole, is below 2^(width - q), q being the twos in the
 // factorials of its exponents, so that it is 0 where q is the width or more. A bad width is a no. Refused for 1, 2, 5, 7, 8, and 9 where there is not
 // one coefficient for each cell. Nothing is altered.
 pub fn is_valid(coeffs: &[u64], support: &[u64], total: u32, bitwidth: u32, max_degree: u8) -> Truth
@@ -37,13 +22,20 @@ pub fn is_valid(coeffs: &[u64], support: &[u64], total: u32, bitwidth: u32, max_
     ensures judges { λ r. ⌜ Judged (ValidPasses total (now (support .entry)) (cube (now (support .entry)) «max_degree») (now (coeffs .entry)))
         bitwidth (cube (now (support .entry)) «max_degree») (now (coeffs .entry)) (saidTruth r) ⌝ }
 {
-    match checks::check(false, support, total, true, max_degree) {
+    match settings::check_within(
+        settings::TABLE_LIMIT,
+        false,
+        support,
+        total,
+        true,
+        max_degree,
+    ) {
         Number::Refused(refusal) => Truth::Refused(refusal),
         Number::Value(count) => {
             if coeffs.len() as u64 != count {
                 return Truth::Refused(Refusal::WrongLength);
             }
-            if !checks::width_fits(bitwidth) {
+            if !settings::width_fits(bitwidth) {
                 return Truth::No;
             }
             let degrees = [max_degree; 20];
@@ -71,7 +63,7 @@ pub fn value(
     ensures values { λ r. ⌜ Valued (ValuePasses total bitwidth (now (support .entry)) (cube (now (support .entry)) «max_degree») (now (coeffs .entry)) (now (point .entry)))
         bitwidth (cube (now (support .entry)) «max_degree») (now (coeffs .entry)) (now (point .entry)) (said r) ⌝ }
 {
-    match settings(false, support, total, bitwidth, max_degree) {
+    match settings::check(false, support, total, bitwidth, max_degree) {
         Number::Refused(refusal) => Number::Refused(refusal),
         Number::Value(count) => {
             if coeffs.len() as u64 != count {
@@ -105,7 +97,7 @@ pub fn sum(
     ensures sums { λ r. ⌜ Summed (SumPasses total bitwidth (now (support .entry)) (cube (now (support .entry)) «max_degree») (now (a .entry)) (now (b .entry))
         (now (out .entry))) bitwidth (cube (now (support .entry)) «max_degree») (now (a .entry)) (now (b .entry)) (saidNumber r) (now (out .exit)) ⌝ }
 {
-    match settings(false, support, total, bitwidth, max_degree) {
+    match settings::check(false, support, total, bitwidth, max_degree) {
         Number::Refused(refusal) => Outcome::Refused(refusal),
         Number::Value(count) => {
             if a.len() as u64 != count {
@@ -141,21 +133,6 @@ fn same_list(a: &[u64], b: &[u64]) -> bool
     true
 }
 
-// The settings of a form and the length of its coefficients.
-fn check_form(coeffs: &[u64], support: &[u64], total: u32, bitwidth: u32, max_degree: u8) -> Outcome
-    ensures { λ r. ⌜ saidNumber r ≡ formNumber (cubeForm total bitwidth (now (support .entry)) «max_degree» (now (coeffs .entry))) ⌝ }
-{
-    match settings(false, support, total, bitwidth, max_degree) {
-        Number::Refused(refusal) => Outcome::Refused(refusal),
-        Number::Value(count) => {
-            if coeffs.len() as u64 != count {
-                return Outcome::Refused(Refusal::WrongLength);
-            }
-            Outcome::Accepted
-        }
-    }
-}
-
 // Whether two forms are equal in total, width, support in order, degree and coefficients. The first is checked, then the second; each is refused for
 // 1, 2, 3, 5, 7, 8, and 9 where there is not one coefficient for each cell. Nothing is altered.
 pub fn same(
@@ -173,13 +150,13 @@ pub fn same(
     ensures { λ r. ⌜ saidTruth r ≡ sameReply (cubeForm total1 bitwidth1 (now (support1 .entry)) «max_degree1» (now (coeffs1 .entry)))
         (cubeForm total2 bitwidth2 (now (support2 .entry)) «max_degree2» (now (coeffs2 .entry))) ⌝ }
 {
-    match check_form(coeffs1, support1, total1, bitwidth1, max_degree1) {
+    match settings::check_form(coeffs1, support1, total1, bitwidth1, max_degree1) {
         Outcome::Refused(refusal) => {
             return Truth::Refused(refusal);
         }
         Outcome::Accepted => {}
     }
-    match check_form(coeffs2, support2, total2, bitwidth2, max_degree2) {
+    match settings::check_form(coeffs2, support2, total2, bitwidth2, max_degree2) {
         Outcome::Refused(refusal) => {
             return Truth::Refused(refusal);
         }
@@ -203,34 +180,6 @@ pub fn same(
     Truth::No
 }
 
-// The settings of a call that takes one table and fills another, and the lengths of both, which are one entry for each cell. Accepted, or turned down
-// for 1, 2, 3, 4 (where `strict`), 5, 7, 8, 9. Nothing is altered.
-pub fn check_tables(
-    strict: bool,
-    support: &[u64],
-    total: u32,
-    bitwidth: u32,
-    max_degree: u8,
-    given: &[u64],
-    out: &[u64],
-) -> Outcome
-    ensures { λ r. ⌜ saidNumber r ≡ inOutNumber strict total bitwidth (now (support .entry)) (cube (now (support .entry)) «max_degree»)
-        (now (given .entry)) (now (out .entry)) ⌝ }
-{
-    match settings(strict, support, total, bitwidth, max_degree) {
-        Number::Refused(refusal) => Outcome::Refused(refusal),
-        Number::Value(count) => {
-            if given.len() as u64 != count {
-                return Outcome::Refused(Refusal::WrongLength);
-            }
-            if out.len() as u64 != count {
-                return Outcome::Refused(Refusal::WrongLength);
-            }
-            Outcome::Accepted
-        }
-    }
-}
-
 // Takes each coefficient of a box modulo its bound 2^(bitwidth - q), in place: the polynomial in falling factorials keeps its value, modulo 2^bitwidth, at
 // every whole-number point. Refused for 1, 2, 3, 5, 7, 8, 9; the box is then as it was.
 pub fn reduce(
@@ -246,7 +195,7 @@ pub fn reduce(
     ensures reduces { λ r. ⌜ Reduced (ReducePasses total bitwidth (now (support .entry)) (cube (now (support .entry)) «max_degree») (now (coeffs .entry)))
         bitwidth (cube (now (support .entry)) «max_degree») (now (coeffs .entry)) (saidNumber r) (now (coeffs .exit)) ⌝ }
 {
-    match settings(false, support, total, bitwidth, max_degree) {
+    match settings::check(false, support, total, bitwidth, max_degree) {
         Number::Refused(refusal) => Outcome::Refused(refusal),
         Number::Value(count) => {
             if coeffs.len() as u64 != count {

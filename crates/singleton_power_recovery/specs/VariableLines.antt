@@ -7,7 +7,7 @@ use mathlib.Core.List.{List, [], _∷_}
 use Prim.Native.Nat.{ℕ, zero, suc, pred, _+_, _*_, _-_, _/_, _%_, _≤_, _<_}
 use native.Mathlib.Nat.{not-suc-le-zero, eq-or-lt-of-le, le-of-suc-le-suc, suc-ne-zero, suc-mul, zero-mul, mul-le-mul-right, lt-of-mul-lt-mul-right}
 use native.Mathlib.Omega.{arith}
-use borrow.Author.Tests.{lt-ltb, le-ltb, le-leb, eq-eqb, ne-eqb}
+use borrow.Author.Tests.{lt-ltb, le-ltb, eq-eqb, ne-eqb}
 use lib.Dec.{T, ltb, eqb}
 use lib.Arith.{digits-div, digits-mod}
 use lib.ListN.{length, set, length-set, take, drop}
@@ -15,9 +15,8 @@ use lib.Seq.{getD-set-same, getD-set-other}
 use Rattle.meaning.specs.Tables.{tabulate, at}
 use Rattle.meaning.specs.Factorials.{degreeCap}
 use Rattle.meaning.specs.Boxes.{cells}
-use Rattle.meaning.specs.Replies.{between}
 use Rattle.meaning.specs.Recovery.{every, accepts, answer}
-use Rattle.meaning.specs.Settings.{some, repeated, settingsNumber, callNumber, first}
+use Rattle.meaning.specs.Settings.{widthFits, some, repeated, settingsNumber, limitedNumber, callNumber, first}
 use Rattle.meaning.specs.Calls.{left, inOutNumber, recoveryNumber, recoveryLeft}
 use Rattle.meaning.specs.Singletons.{oneLine, line, singletonAccepts, singletonAnswer, singletonSettings, singletonNumber, singletonLeft}
 use Rattle.theory.specs.Tables.{Filled, filled-start, eq-tabulate, length-tabulate}
@@ -36,19 +35,15 @@ unfolding cells
 cells-line zero h = absurd (not-suc-le-zero h)
 cells-line (suc n) h = omega arith
 
--- a width that passes
-pub width-passes : (w : ℕ) → 2 ≤ w → w ≤ 64 → between 2 64 w ≡ true
-width-passes w low high = rw (le-leb 2 w low, le-leb w 64 high)
-
 -- the settings of a line pass
-module _ (w size : ℕ) (low : 2 ≤ w) (high : w ≤ 64) (long : 2 ≤ size) (short : size ≤ 256) where
-  line-settings : settingsNumber true 1 (between 2 64 w) (0 ∷ []) (oneLine size) ≡ 0
-  unfolding settingsNumber some repeated
+module _ (w size : ℕ) (fits : widthFits w ≡ true) (long : 2 ≤ size) (short : size ≤ 256) where
+  line-settings : settingsNumber true 1 (widthFits w) (0 ∷ []) (oneLine size) ≡ 0
+  unfolding limitedNumber some repeated
   line-settings =
       let c = cells-line size (omega arith) in
       let e : ltb 65536 (cells (oneLine size)) ≡ false = le-ltb 65536 (cells (oneLine size)) (omega (arith, c)) in
       let d : eqb 0 (pred size) ≡ false = ne-eqb 0 (pred size) (λ q. absurd (omega arith)) in
-      rw (width-passes w low high, d, e)
+      rw (fits, d, e)
 
   module _ (v out : List ℕ) (given : length v ≡ size) (room : length out ≡ size) where
     line-ready : inOutNumber true 1 w (0 ∷ []) (oneLine size) v out ≡ 0
@@ -69,7 +64,7 @@ module _ (w size : ℕ) (low : 2 ≤ w) (high : w ≤ 64) (long : 2 ≤ size) (s
         ap (λ (n : ℕ). left n (cond (accepts w (oneLine size) v) (answer w (oneLine size) v) (tabulate (cells (oneLine size)) (λ n. 0))) out) line-ready
 
 -- a line after recovery with its highest degree, and then 0 in place of the constant
-module _ (w : ℕ) (v out : List ℕ) (low : 2 ≤ w) (high : w ≤ 64) (long : 2 ≤ length v) (short : length v ≤ 256) (room : length out ≡ length v) where
+module _ (w : ℕ) (v out : List ℕ) (fits : widthFits w ≡ true) (long : 2 ≤ length v) (short : length v ≤ 256) (room : length out ≡ length v) where
   degree-eq : (length v - 1) ∷ [] ≡ oneLine (length v)
   degree-eq =
       let e : length v - 1 ≡ pred (length v) = omega arith in
@@ -77,7 +72,7 @@ module _ (w : ℕ) (v out : List ℕ) (low : 2 ≤ w) (high : w ≤ 64) (long : 
 
   decides : recoveryNumber 1 w (0 ∷ []) ((length v - 1) ∷ []) v out ≡ cond (accepts w (oneLine (length v)) v) 0 6
   decides =
-      ap (λ (ds : List ℕ). recoveryNumber 1 w (0 ∷ []) ds v out) degree-eq ∙ line-number w (length v) low high long short v out refl room
+      ap (λ (ds : List ℕ). recoveryNumber 1 w (0 ∷ []) ds v out) degree-eq ∙ line-number w (length v) fits long short v out refl room
 
   pub single-accepted : {t : List ℕ} → 0 ≡ recoveryNumber 1 w (0 ∷ []) ((length v - 1) ∷ []) v out
       → t ≡ recoveryLeft 1 w (0 ∷ []) ((length v - 1) ∷ []) v out → Single w v (set t 0 0) true
@@ -87,7 +82,7 @@ module _ (w : ℕ) (v out : List ℕ) (low : 2 ≤ w) (high : w ≤ 64) (long : 
         leaves = λ q. ap (λ (k : List ℕ). set k 0 0)
             (l
             ∙ ap (λ (ds : List ℕ). recoveryLeft 1 w (0 ∷ []) ds v out) degree-eq
-            ∙ line-left w (length v) low high long short v out refl room
+            ∙ line-left w (length v) fits long short v out refl room
             ∙ ap (λ (b : Bool). cond b (answer w (oneLine (length v)) v) (tabulate (cells (oneLine (length v))) (λ n. 0))) yes-accepts);
       }
     where
@@ -240,11 +235,11 @@ module _ (n w : ℕ) (v out : List ℕ) where
   too-many h = rw (lt-ltb 20 n h)
 
   module _ (few : n ≤ 20) where
-    pub bad-width : between 2 64 w ≡ false → singletonSettings n w v out ≡ 3
+    pub bad-width : widthFits w ≡ false → singletonSettings n w v out ≡ 3
     unfolding singletonSettings
     bad-width e = rw (le-ltb 20 n few, e)
 
-    module _ (fits : between 2 64 w ≡ true) where
+    module _ (fits : widthFits w ≡ true) where
       lengths : {b : Bool} → (eqb (length v) (n * degreeCap w) && eqb (length out) (n * degreeCap w)) ≡ b → singletonSettings n w v out ≡ cond b 0 9
       unfolding singletonSettings
       lengths e = rw (le-ltb 20 n few, fits, e)

@@ -1,9 +1,11 @@
 // Singleton powers: for each variable alone, the others held at 0, the coefficients of its falling factorials without the constant. Each variable's
 // values are recovered as a box of one variable, and the constant is then set to 0.
 ghost use mathlib.Core.Path.{_≡_};
+ghost use mathlib.Core.Bool.{true};
 ghost use Prim.Native.Nat.{ℕ, _*_, _≤_, _<_};
 ghost use lib.ListN.{length};
 ghost use Rattle.meaning.specs.Tables.{tabulate};
+ghost use Rattle.meaning.specs.Settings.{widthFits};
 ghost use Rattle.meaning.specs.Singletons.{singletonNumber, singletonLeft};
 ghost use Rattle.singleton_power_recovery.specs.VariableLines.{Single, Singles};
 ghost use Rattle.answers.specs.Said.{saidNumber};
@@ -13,7 +15,7 @@ use answers::Refusal;
 
 // One variable: its coefficients, with 0 in place of the constant. The result says whether every difference passes.
 fn recover_line(values: &[u64], bitwidth: u32, out: &mut [u64]) -> bool
-    requires { ⌜ (2 ≤ bitwidth) × (bitwidth ≤ 64) × (2 ≤ length (now values)) × (length (now values) ≤ 256) × (length (now out) ≡ length (now values)) ⌝ }
+    requires { ⌜ (widthFits bitwidth ≡ true) × (2 ≤ length (now values)) × (length (now values) ≤ 256) × (length (now out) ≡ length (now values)) ⌝ }
     ensures { λ r. ⌜ Single bitwidth (now (values .entry)) (now (out .exit)) r ⌝ }
 {
     let support = [0u64; 1];
@@ -34,7 +36,7 @@ fn recover_line(values: &[u64], bitwidth: u32, out: &mut [u64]) -> bool
 
 // Variable after variable, `size` cells each, up to the first that has a difference that does not pass. The result says whether there is none.
 fn recover_lines(values: &[u64], size: usize, bitwidth: u32, out: &mut [u64]) -> bool
-    requires { ⌜ (2 ≤ bitwidth) × (bitwidth ≤ 64) × (2 ≤ size) × (size ≤ 256) × (length (now out) ≡ length (now values)) ⌝ }
+    requires { ⌜ (widthFits bitwidth ≡ true) × (2 ≤ size) × (size ≤ 256) × (length (now out) ≡ length (now values)) ⌝ }
     ensures { λ r. ⌜ ((n : ℕ) → length (now (values .entry)) ≡ n * size → Singles bitwidth size n (now (values .entry)) (now (out .exit)) r) ⌝ }
 {
     let mut from = 0;

@@ -15,7 +15,7 @@ use Rattle.meaning.specs.Values.{weight, oddFactor, bound}
 use Rattle.meaning.specs.Differences.{minus, diff, diffs, newton, differences, grid}
 use Rattle.meaning.specs.Recovery.{difference, divides, coefficient, every, accepts, answer}
 use Rattle.meaning.specs.Conversions.{fallingBox, powerBox, normalBox}
-use Rattle.meaning.specs.Settings.{some, repeated, settingsNumber, callNumber}
+use Rattle.meaning.specs.Settings.{widthFits, some, repeated, limitedNumber, callNumber}
 use Rattle.meaning.specs.Calls.{sameList, inOutNumber, recoveryNumber, recoveryLeft, convertLeft}
 use Rattle.meaning.specs.Singletons.{singletonAccepts, singletonAnswer, singletonSettings, singletonNumber, singletonLeft}
 use Rattle.meaning.specs.Elimination.{solverNumber, solverAnswer}
@@ -105,5 +105,5 @@ all [] = true
 all (b ∷ bs) = b && all bs
 
 pub all-rows-hold : T (all rows)
-unfolding all rows recovers converts normalises to-powers recovers-line fits solves satisfies tabulate sum factorial twosIn twos oddPart capFrom degreeCap lifted inverse residue stirling1 stirling2 fallingLine powerLine cells digits cell along weight oddFactor bound minus diff diffs newton differences grid difference divides coefficient every accepts answer fallingBox powerBox normalBox some repeated settingsNumber callNumber sameList convertLeft recoveryNumber recoveryLeft singletonAccepts singletonAnswer singletonSettings singletonNumber singletonLeft
+unfolding all rows recovers converts normalises to-powers recovers-line fits solves satisfies tabulate sum factorial twosIn twos oddPart capFrom degreeCap lifted inverse residue stirling1 stirling2 fallingLine powerLine cells digits cell along weight oddFactor bound minus diff diffs newton differences grid difference divides coefficient every accepts answer fallingBox powerBox normalBox widthFits some repeated limitedNumber callNumber sameList convertLeft recoveryNumber recoveryLeft singletonAccepts singletonAnswer singletonSettings singletonNumber singletonLeft
 all-rows-hold = tt

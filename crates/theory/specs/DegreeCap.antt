@@ -54,9 +54,18 @@ unfolding degreeCap
 degreeCap-least w =
     capFrom-least w (2 * w) 0 (2 * w) (omega arith) (omega (arith, half-le-twos (2 * w))) (λ e h. absurd (not-suc-le-zero h))
 
--- the cap is no lower than the width, and at widths to 64 no higher than 66, since 66! has 64 twos
-pub width-le-degreeCap : (w : ℕ) → w ≤ degreeCap w
-width-le-degreeCap w = omega (arith, degreeCap-least w .enough, legendre (degreeCap w))
+-- the cap is 2 at least, since 0! and 1! have no twos, and at widths to 64 no higher than 66, since 66! has 64
+few-twos : (twos (factorial 0) ≡ 0) × (twos (factorial 1) ≡ 0)
+unfolding ones
+few-twos = (omega (arith, legendre 0), omega (arith, legendre 1))
+
+pub two-le-degreeCap : (w : ℕ) → 1 ≤ w → 2 ≤ degreeCap w
+two-le-degreeCap w h = go (degreeCap w) (degreeCap-least w .enough)
+  where
+    go : (d : ℕ) → w ≤ twos (factorial d) → 2 ≤ d
+    go zero k = absurd (omega (arith, h, k, few-twos .0))
+    go (suc zero) k = absurd (omega (arith, h, k, few-twos .1))
+    go (suc (suc d)) k = omega arith
 
 twos-66 : twos (factorial 66) ≡ 64
 unfolding ones

@@ -23,7 +23,7 @@ use Rattle.theory.specs.Widths.{bound-pos}
 use Rattle.theory.specs.DemandThree.{value-cong-normal}
 use Rattle.theory.specs.LinearSystems.{Solves}
 use Rattle.theory.specs.BackSubstitution.{substituted-solves}
-use Rattle.theory.specs.Settings.{first-zero}
+use Rattle.theory.specs.AcceptedCalls.{first-zero}
 use Rattle.theory.specs.SolverLaws.{passed, holds-of-true}
 use Rattle.theory.specs.Columns.{in-columns-iff, columns-ordered}
 use Rattle.theory.specs.ColumnValues.{columns-sum}

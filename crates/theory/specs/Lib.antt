@@ -31,8 +31,6 @@ pub mod CutPolynomials
 pub mod DecidingGrids
 pub mod OpenGrids
 pub mod ConversionLaws
-pub mod Indices
-pub mod Settings
 pub mod LastVariable
 pub mod Walks
 pub mod BoxValues

@@ -9,7 +9,7 @@ use lib.Pow.{pow-pos}
 use borrow.Author.Tests.{lt-ltb, le-ltb}
 use Rattle.meaning.specs.Tables.{tabulate, at}
 use Rattle.meaning.specs.Sums.{sum}
-use Rattle.theory.specs.Settings.{first-zero}
+use Rattle.theory.specs.AcceptedCalls.{first-zero}
 use Rattle.meaning.specs.Calls.{left}
 use Rattle.meaning.specs.Elimination.{system, substituted, solverRows, solverCause, solverState, solverSucceeds, solverNumber, solverAnswer}
 use Rattle.theory.specs.Congruence.{Cong, cong-of-eq, cong-sym, cong-trans, cong-mul-right, mod-cong}

@@ -1,6 +1,6 @@
 -- A call of the four by four solver: the shape of the arrays that it is given, and its number and answer from those of the system that fits.
 use mathlib.Core.Path.{_≡_, refl, sym, ap, _∙_}
-use mathlib.Core.Bool.{false, _||_}
+use mathlib.Core.Bool.{true, false, _||_}
 use mathlib.Core.List.{List, [], _∷_}
 use Prim.Native.Nat.{ℕ, zero, suc, _*_, _/_, _≤_, _<_}
 use native.Mathlib.Nat.{not-suc-le-zero, le-of-suc-le-suc}
@@ -12,9 +12,8 @@ use denote.Shadow.{shadow}
 use denote.Laws.{Is}
 use denote.Plain.{UInt}
 use denote.Array.{Array, each}
-use Rattle.meaning.specs.Replies.{between}
 use Rattle.meaning.specs.Elimination.{joined, fixedNumber, fixedAnswer}
-use Rattle.theory.specs.Ranges.{between-true}
+use Rattle.meaning.specs.Settings.{widthFits}
 use Rattle.two_adic_solver.specs.Fixed.{Square}
 use Rattle.two_adic_solver.specs.Solved.{Finished}
 use Rattle.two_adic_solver.proofs.SolverLaws.{refused-width, fitting-call}
@@ -39,19 +38,19 @@ square-good xs vs p =
 -- ---- the call
 
 module _ (w : ℕ) (m : List (List ℕ)) (r : List ℕ) where
-  pub fixed-width : between 2 64 w ≡ false → (3 ≡ fixedNumber w m r) × (replicate 4 0 ≡ fixedAnswer w m r)
+  pub fixed-width : widthFits w ≡ false → (3 ≡ fixedNumber w m r) × (replicate 4 0 ≡ fixedAnswer w m r)
   unfolding fixedNumber fixedAnswer
   fixed-width e =
       let q = refused-width w 4 (joined m) r (replicate 4 0) e in
       (q .0, q .3)
 
   module _ (s : Square m) (e : length r ≡ 4) where
-    pub fixed-solved : 2 ≤ w → w ≤ 64 → (n : ℕ) (mat rhs x : List ℕ) → Finished w 4 (joined m) r mat rhs x n
+    pub fixed-solved : widthFits w ≡ true → (n : ℕ) (mat rhs x : List ℕ) → Finished w 4 (joined m) r mat rhs x n
         → (n ≡ fixedNumber w m r) × (x ≡ fixedAnswer w m r)
     unfolding fixedNumber fixedAnswer
-    fixed-solved low high n mat rhs x k =
+    fixed-solved fits n mat rhs x k =
         let l = joined-length s in
-        let q = fitting-call w 4 (joined m) r (replicate 4 0) (between-true 2 64 w low high)
+        let q = fitting-call w 4 (joined m) r (replicate 4 0) fits
         (ap (λ (n : ℕ). ltb 65536 n || ltb 65536 4) l) refl (ap (λ (n : ℕ). eqb (n / 4 * 4) n) l) (e ∙ sym (ap (_/ 4) l)) refl
         n mat rhs x (k .shows .matrix-length ∙ ap (_* 4) e ∙ sym l) k in
         (q .0, q .3)

@@ -7,8 +7,7 @@ use native.Mathlib.Nat.{not-suc-le-zero, lt-irrefl, mul-suc}
 use native.Mathlib.Omega.{arith}
 use lib.Dec.{T, ltb, eqb}
 use lib.ListN.{length, getD, replicate}
-use Rattle.meaning.specs.Replies.{between}
-use Rattle.meaning.specs.Settings.{first}
+use Rattle.meaning.specs.Settings.{widthFits, first}
 use Rattle.meaning.specs.Calls.{left}
 use borrow.Author.Tests.{ltb-true, eq-eqb}
 use Rattle.meaning.specs.Tables.{at, tabulate}
@@ -202,7 +201,7 @@ module _ (w cols : ℕ) (mat rhs x : List ℕ) where
   abbrev fits : Bool
   fits = ltb 0 cols && eqb (solverRows cols mat * cols) (length mat) && eqb (length rhs) (solverRows cols mat) && eqb (length x) cols
 
-  cause-eq : solverCause w cols mat rhs x ≡ cause (between 2 64 w) big fits
+  cause-eq : solverCause w cols mat rhs x ≡ cause (widthFits w) big fits
   unfolding solverCause
   cause-eq = refl
 
@@ -217,21 +216,21 @@ module _ (w cols : ℕ) (mat rhs x : List ℕ) where
     sym (ap (λ (k : ℕ). left k (tabulate cols (λ c. cond (solverSucceeds w cols mat rhs) (substituted w cols (solverState w cols mat rhs) c) 0)) x) e),
   )
 
-  pub refused-width : between 2 64 w ≡ false
+  pub refused-width : widthFits w ≡ false
       → (3 ≡ solverNumber w cols mat rhs x) × (mat ≡ solverMatrix w cols mat rhs x) × (rhs ≡ solverRight w cols mat rhs x) × (x ≡ solverAnswer w cols mat rhs x)
   refused-width e = refused 2 (cause-eq ∙ ap (λ (b : Bool). cause b big fits) e)
 
-  pub refused-size : between 2 64 w ≡ true → (ltb 65536 (length mat) || ltb 65536 cols) ≡ true
+  pub refused-size : widthFits w ≡ true → (ltb 65536 (length mat) || ltb 65536 cols) ≡ true
       → (8 ≡ solverNumber w cols mat rhs x) × (mat ≡ solverMatrix w cols mat rhs x) × (rhs ≡ solverRight w cols mat rhs x) × (x ≡ solverAnswer w cols mat rhs x)
   refused-size e f = refused 7 (cause-eq ∙ ap₂ (λ (b d : Bool). cause b d fits) e f)
 
-  pub refused-length : between 2 64 w ≡ true → (ltb 65536 (length mat) || ltb 65536 cols) ≡ false
+  pub refused-length : widthFits w ≡ true → (ltb 65536 (length mat) || ltb 65536 cols) ≡ false
       → (ltb 0 cols && eqb (solverRows cols mat * cols) (length mat) && eqb (length rhs) (solverRows cols mat) && eqb (length x) cols) ≡ false
       → (9 ≡ solverNumber w cols mat rhs x) × (mat ≡ solverMatrix w cols mat rhs x) × (rhs ≡ solverRight w cols mat rhs x) × (x ≡ solverAnswer w cols mat rhs x)
   refused-length e f g = refused 8 (cause-eq ∙ ap₂ (λ (b d : Bool). cause b d fits) e f ∙ ap (cause true false) g)
 
   -- no cause
-  pub accepted-call : between 2 64 w ≡ true → (ltb 65536 (length mat) || ltb 65536 cols) ≡ false
+  pub accepted-call : widthFits w ≡ true → (ltb 65536 (length mat) || ltb 65536 cols) ≡ false
       → (ltb 0 cols && eqb (solverRows cols mat * cols) (length mat) && eqb (length rhs) (solverRows cols mat) && eqb (length x) cols) ≡ true
       → length rhs ≡ solverRows cols mat → (n : ℕ) (mat′ rhs′ x′ : List ℕ) → length mat′ ≡ length mat → Finished w cols mat rhs mat′ rhs′ x′ n
       → (n ≡ solverNumber w cols mat rhs x) × (mat′ ≡ solverMatrix w cols mat rhs x) × (rhs′ ≡ solverRight w cols mat rhs x) ×
@@ -264,7 +263,7 @@ and-false-right : (a b : Bool) → b ≡ false → (a && b) ≡ false
 and-false-right true b e = e
 and-false-right false b e = refl
 
-module _ (w cols : ℕ) (mat rhs x : List ℕ) (ok : between 2 64 w ≡ true) (small : (ltb 65536 (length mat) || ltb 65536 cols) ≡ false) where
+module _ (w cols : ℕ) (mat rhs x : List ℕ) (ok : widthFits w ≡ true) (small : (ltb 65536 (length mat) || ltb 65536 cols) ≡ false) where
   abbrev Ninth : Type 0
   Ninth = (9 ≡ solverNumber w cols mat rhs x) × (mat ≡ solverMatrix w cols mat rhs x) × (rhs ≡ solverRight w cols mat rhs x) ×
       (x ≡ solverAnswer w cols mat rhs x)

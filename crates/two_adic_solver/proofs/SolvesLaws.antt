@@ -8,9 +8,9 @@ use native.Mathlib.Omega.{arith}
 use lib.Dec.{T, ltb, eqb}
 use lib.ListN.{length, replicate}
 use borrow.Author.Tests.{eqb-true}
-use Rattle.meaning.specs.Replies.{between}
 use Rattle.meaning.specs.Elimination.{joined, solverRows, solverCause, solverNumber, solverAnswer, fixedNumber, fixedAnswer}
-use Rattle.theory.specs.Settings.{first-zero}
+use Rattle.meaning.specs.Settings.{widthFits}
+use Rattle.theory.specs.AcceptedCalls.{first-zero}
 use Rattle.theory.specs.SolverLaws.{solver-answer-solves}
 use Rattle.two_adic_solver.specs.Solves.{Solves}
 
@@ -36,7 +36,7 @@ module _ (w cols : ℕ) (mat rhs x : List ℕ) where
       let sides : Bool = eqb (length rhs) (solverRows cols mat) in
       let values : Bool = eqb (length x) cols in
       let fits =
-      no-cause (between 2 64 w) (ltb 65536 (length mat) || ltb 65536 cols) (whole && sides && values)
+      no-cause (widthFits w) (ltb 65536 (length mat) || ltb 65536 cols) (whole && sides && values)
       (first-zero (solverCause w cols mat rhs x) _ ok .0) in
       eqb-true (length rhs) (solverRows cols mat) (and-right whole sides (and-left (whole && sides) values fits))
 

@@ -92,13 +92,7 @@ fn solve_checked(matrix: [[u64; 4]; 4], right: [u64; 4], bitwidth: u32) -> Fixed
     ensures { λ r. ⌜ (saidNumber (r .outcome) ≡ fixedNumber bitwidth matrix right) × (r .answer ≡ fixedAnswer bitwidth matrix right) ⌝ }
 {
     let mut answer = [0; 4];
-    if bitwidth < 2 {
-        return Fixed {
-            outcome: Outcome::Refused(Refusal::WidthOutOfRange),
-            answer: answer,
-        };
-    }
-    if 64 < bitwidth {
+    if !settings::width_fits(bitwidth) {
         return Fixed {
             outcome: Outcome::Refused(Refusal::WidthOutOfRange),
             answer: answer,

@@ -101,10 +101,7 @@ fn solve_checked(
         × (now (right .exit) ≡ solverRight bitwidth columns (now (matrix .entry)) (now (right .entry)) (now (answer .entry)))
         × (now (answer .exit) ≡ solverAnswer bitwidth columns (now (matrix .entry)) (now (right .entry)) (now (answer .entry))) ⌝ }
 {
-    if bitwidth < 2 {
-        return Outcome::Refused(Refusal::WidthOutOfRange);
-    }
-    if 64 < bitwidth {
+    if !settings::width_fits(bitwidth) {
         return Outcome::Refused(Refusal::WidthOutOfRange);
     }
     if 65536 < matrix.len() {

@@ -18,7 +18,6 @@ use Rattle.meaning.specs.Elimination.{State, system, eliminated, substituted, s
 use Rattle.meaning.specs.Elimination.{solverRows, solverCause, solverState, solverSucceeds, solverNumber, solverAnswer}
 use Rattle.meaning.specs.Fit.{valueOf, fitBox, degreeUsed}
 use Rattle.theory.specs.Tables.{at-tabulate, tabulate-cong}
-use Rattle.theory.specs.Ranges.{between-true}
 use Rattle.answers.specs.declared.Refusal.{Refusal}
 use Rattle.answers.specs.Said.{code}
 use Rattle.answers.specs.Laws.{code-suc}
@@ -56,7 +55,7 @@ module _ (w : ℕ) (mat rhs x : List ℕ) (f : Solvable w mat rhs x) where
   no-cause : solverCause w cols mat rhs x ≡ 0
   unfolding solverCause
   no-cause =
-      ap₂ (λ (a b : Bool). cond a (cond b 8 (cond exact 0 9)) 3) (between-true 2 64 w (f .low) (f .high))
+      ap₂ (λ (a b : Bool). cond a (cond b 8 (cond exact 0 9)) 3) (f .fits)
       (ap₂ _||_ (le-ltb 65536 (length mat) (f .small)) (le-ltb 65536 cols (omega (arith, f .few))))
       ∙ ap (λ (b : Bool). cond b 0 9) all
     where

@@ -10,8 +10,8 @@ use lib.Dec.{ltb, eqb}
 use lib.ListN.{length, replicate}
 use Rattle.meaning.specs.Tables.{at, tabulate}
 use Rattle.meaning.specs.Boxes.{cells}
-use Rattle.meaning.specs.Replies.{Reply, refused, between}
-use Rattle.meaning.specs.Settings.{settingsNumber, first}
+use Rattle.meaning.specs.Replies.{Reply, refused}
+use Rattle.meaning.specs.Settings.{widthFits, settingsNumber, first}
 use Rattle.meaning.specs.Calls.{reply, left}
 use Rattle.meaning.specs.Fit.{columns, fitSystem, degreeUsed, Fit, fitRows, fitColumns}
 use Rattle.meaning.specs.Fit.{fitCause, fitState, fitSucceeds, fitAnswer, fitNumber, fitReply, fitOut, fitMatrix, fitRight}
@@ -146,7 +146,7 @@ settled f = fitWith (f .width) (f .degrees) (f .grid) (f .most) (f .weights) (f 
 
 module _ (f : Fit) where
   -- the settings pass
-  pub call-settled : settingsNumber false (f .variables) (between 2 64 (f .width)) (f .support) (f .grid) ≡ 0 → (matrix right out : List ℕ) (r : Reply)
+  pub call-settled : settingsNumber false (f .variables) (widthFits (f .width)) (f .support) (f .grid) ≡ 0 → (matrix right out : List ℕ) (r : Reply)
       → Fitted (settled f) (tableCause (settled f)) matrix right out r
       → Called f matrix right out r
   unfolding fitReply fitNumber fitOut fitMatrix fitRight fitCause fitSucceeds fitAnswer fitState
@@ -160,12 +160,12 @@ module _ (f : Fit) where
         ),
       )
 
-  cause-turned : (r : Refusal) → settingsNumber false (f .variables) (between 2 64 (f .width)) (f .support) (f .grid) ≡ code r → fitCause f ≡ code r
+  cause-turned : (r : Refusal) → settingsNumber false (f .variables) (widthFits (f .width)) (f .support) (f .grid) ≡ code r → fitCause f ≡ code r
   unfolding fitCause
   cause-turned r e = first-code r (tableCause (settled f)) e
 
   -- the settings are turned down
-  pub call-turned : (r : Refusal) → settingsNumber false (f .variables) (between 2 64 (f .width)) (f .support) (f .grid) ≡ code r
+  pub call-turned : (r : Refusal) → settingsNumber false (f .variables) (widthFits (f .width)) (f .support) (f .grid) ≡ code r
       → Called f (f .matrix) (f .right) (f .out) (refused (code r))
   unfolding fitReply fitNumber fitOut fitMatrix fitRight
   call-turned r e =

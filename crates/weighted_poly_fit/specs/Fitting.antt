@@ -1,6 +1,6 @@
 -- What the parts of the fit ask and promise: the system is solved into a box, and the tables are left as the call leaves them.
 use mathlib.Core.Path.{_≡_}
-use mathlib.Core.Bool.{Bool, _&&_, cond}
+use mathlib.Core.Bool.{Bool, true, _&&_, cond}
 use mathlib.Core.List.{List, []}
 use Prim.Native.Nat.{ℕ, _*_, _≤_, _<_}
 use lib.Dec.{ltb, eqb}
@@ -8,7 +8,7 @@ use lib.ListN.{length}
 use Rattle.meaning.specs.Tables.{tabulate, at}
 use Rattle.meaning.specs.Boxes.{cells}
 use Rattle.meaning.specs.Replies.{Reply}
-use Rattle.meaning.specs.Settings.{first}
+use Rattle.meaning.specs.Settings.{widthFits, first}
 use Rattle.meaning.specs.Calls.{reply, left}
 use Rattle.meaning.specs.Elimination.{eliminated, substituted, succeeds}
 use Rattle.meaning.specs.Fit.{fitBox, degreeUsed, Fit, fitRows, fitColumns, fitSucceeds, fitAnswer, fitReply, fitOut, fitMatrix, fitRight}
@@ -17,7 +17,7 @@ use Rattle.meaning.specs.Fit.{fitBox, degreeUsed, Fit, fitRows, fitColumns, fit
 
 -- width and degrees, of the box and of the grid, of a fit; the box's are below `size`
 pub record Shaped (w size : ℕ) (ds gs : List ℕ) : Type 0 where
-  pub low : 2 ≤ w
+  pub fits : widthFits w ≡ true
   pub high : w ≤ 64
   pub same : length gs ≡ length ds
   pub variables-few : length ds ≤ 20
@@ -26,7 +26,7 @@ pub record Shaped (w size : ℕ) (ds gs : List ℕ) : Type 0 where
 
 -- a matrix and a right side that the solver takes, with a value in x for each column
 pub record Solvable (w : ℕ) (mat rhs x : List ℕ) : Type 0 where
-  pub low : 2 ≤ w
+  pub fits : widthFits w ≡ true
   pub high : w ≤ 64
   pub some : 0 < length x
   pub few : length x ≤ 256

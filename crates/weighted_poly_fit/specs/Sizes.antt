@@ -4,8 +4,8 @@ use mathlib.Core.List.{List, []}
 use Prim.Native.Nat.{ℕ, _*_}
 use lib.Dec.{ltb}
 use lib.ListN.{length}
-use Rattle.meaning.specs.Replies.{Reply, between}
-use Rattle.meaning.specs.Settings.{settingsNumber, first}
+use Rattle.meaning.specs.Replies.{Reply}
+use Rattle.meaning.specs.Settings.{widthFits, settingsNumber, first}
 use Rattle.meaning.specs.Calls.{reply}
 use Rattle.meaning.specs.Fit.{Fit, fitOf, fitRows, fitColumns}
 
@@ -16,7 +16,7 @@ fitSettings total w support max-degree grid-degree = fitOf total w support max-d
 -- the first cause before the tables are looked at: the settings, then 8 for the matrix
 abbrev pub sizeCause : Fit → ℕ
 sizeCause f =
-    first (settingsNumber false (f .variables) (between 2 64 (f .width)) (f .support) (f .grid))
+    first (settingsNumber false (f .variables) (widthFits (f .width)) (f .support) (f .grid))
     (cond (ltb 65536 (fitRows f * length (fitColumns f))) 8 0)
 
 -- the number of columns

@@ -166,7 +166,7 @@ fn fit_box(
     if 65536 < entries {
         return Number::Refused(Refusal::TooLarge);
     }
-    let count = poly::checks::count_cells(degrees) as usize;
+    let count = settings::count_cells(degrees, settings::TABLE_LIMIT) as usize;
     if !lengths_fit(weights, targets, matrix, right, out, rows, entries, count) {
         return Number::Refused(Refusal::WrongLength);
     }
@@ -201,7 +201,7 @@ fn weighted_fit(
     ensures { λ r. ⌜ Called (fitOf total bitwidth (now (support .entry)) «max_degree» «grid_degree» (now (weights .entry)) (now (targets .entry))
         (now (matrix .entry)) (now (right .entry)) (now (out .entry))) (now (matrix .exit)) (now (right .exit)) (now (out .exit)) (said r) ⌝ }
 {
-    match poly::settings(false, support, total, bitwidth, grid_degree) {
+    match settings::check(false, support, total, bitwidth, grid_degree) {
         Number::Refused(refusal) => Number::Refused(refusal),
         Number::Value(rows) => {
             let degree = lesser_degree(max_degree, grid_degree);

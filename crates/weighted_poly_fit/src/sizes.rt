@@ -18,7 +18,7 @@ pub fn fit_columns(
 ) -> Number
     ensures { λ r. ⌜ said r ≡ columnsReply (fitSettings total bitwidth (now (support .entry)) «max_degree» «grid_degree») ⌝ }
 {
-    match poly::settings(false, support, total, bitwidth, grid_degree) {
+    match settings::check(false, support, total, bitwidth, grid_degree) {
         Number::Refused(refusal) => Number::Refused(refusal),
         Number::Value(rows) => {
             let degree = fit::lesser_degree(max_degree, grid_degree);

@@ -6,14 +6,13 @@ use Prim.Native.Nat.{ℕ, _≤_}
 use lib.ListN.{length, replicate}
 use borrow.Author.Tests.{eq-eqb, ne-eqb, not-true, not-false}
 use Rattle.meaning.specs.Boxes.{cells}
-use Rattle.meaning.specs.Replies.{between}
-use Rattle.meaning.specs.Settings.{cube}
-use Rattle.answers.specs.Laws.{Settled, Unsettled, settled, unsettled}
-use Rattle.theory.specs.Settings.{passes, take-cube}
+use Rattle.meaning.specs.Settings.{tableLimit, widthFits, cube}
+use Rattle.settings.specs.Settled.{Settled, Unsettled, settled, unsettled}
+use Rattle.settings.specs.Causes.{passes, take-cube}
 use lib.Seq.{length-take-le}
 use mathlib.Core.List.{List}
 use Rattle.meaning.specs.Recovery.{every}
-use Rattle.theory.specs.Ranges.{le-of-between}
+use Rattle.theory.specs.Ranges.{width-high}
 use Rattle.theory.specs.BoxBounds.{isBelow}
 use Rattle.poly.proofs.Replies.{valid-turned, valid-length, valid-accepted}
 use Rattle.poly.proofs.is_valid.Statement.{statement}
@@ -25,13 +24,13 @@ ok : (c : tie.After-count) →
     Settled false (k .total) (true) (k .support .now) (cube (k .support .now) (k .max-degree)) (c .count .given .0 .0)
 ok c =
     let k = c .before .before .before .before .before .args in
-    settled false (k .total) (true) (k .support .now) (cube (k .support .now) (k .max-degree)) (c .before .before .check .ensures) (c .count .given .1)
+    settled false (k .total) (true) (k .support .now) (cube (k .support .now) (k .max-degree)) (c .before .before .check-within .ensures) (c .count .given .1)
 
 -- there are at most twenty variables
 short : (c : tie.After-count) → length (c .before .before .before .before .before .args .support .now) ≤ 20
 short c =
     let k = c .before .before .before .before .before .args in
-    passes false (k .total) (true) (k .support .now) (cube (k .support .now) (k .max-degree)) (ok c .passes) .short
+    passes tableLimit false (k .total) (true) (k .support .now) (cube (k .support .now) (k .max-degree)) (ok c .passes) .short
 
 -- the settings are turned down
 turned : (c : tie.After-refusal) →
@@ -39,10 +38,10 @@ turned : (c : tie.After-refusal) →
     Unsettled false (k .total) (true) (k .support .now) (cube (k .support .now) (k .max-degree)) (c .refusal .given .0 .0)
 turned c =
     let k = c .before .before .before .before .before .args in
-    unsettled false (k .total) (true) (k .support .now) (cube (k .support .now) (k .max-degree)) (c .before .before .check .ensures) (c .refusal .given .1)
+    unsettled false (k .total) (true) (k .support .now) (cube (k .support .now) (k .max-degree)) (c .before .before .check-within .ensures) (c .refusal .given .1)
 
 -- the width fits
-wide : (c : tie.Else2) → between 2 64 (c .before .before .before .before .before .before .before .before .before .args .bitwidth) ≡ true
+wide : (c : tie.Else2) → widthFits (c .before .before .before .before .before .before .before .before .before .args .bitwidth) ≡ true
 wide c = sym (c .before .width-fits .ensures) ∙ not-false _ (c .if2 .left)
 
 pub is-valid-spec : {M : Type 1} → statement M
@@ -68,7 +67,7 @@ is-valid-spec =
     let k = c .before .before .before .before .before .before .before .before .before .before .args in (
       c .before .before .before .if1 .left ∙ ok (c .before .before .before .before .before) .counted ∙ ap cells
           (sym (take-cube (k .support .now) (k .max-degree) (short (c .before .before .before .before .before)))),
-      le-of-between 2 64 (k .bitwidth)
+      width-high (k .bitwidth)
           (wide (c .before)),
     ))
     (λ c.

@@ -6,23 +6,22 @@ use Prim.Native.Nat.{ℕ, _≤_}
 use lib.ListN.{length}
 use borrow.Author.Tests.{eq-eqb, ne-eqb}
 use Rattle.meaning.specs.Boxes.{cells}
-use Rattle.meaning.specs.Replies.{between}
-use Rattle.meaning.specs.Settings.{cube}
+use Rattle.meaning.specs.Settings.{tableLimit, widthFits, cube}
 use Rattle.meaning.specs.Calls.{settingsReply}
-use Rattle.answers.specs.Laws.{Settled, Unsettled, settled, unsettled}
-use Rattle.theory.specs.Settings.{passes, take-cube}
+use Rattle.settings.specs.Settled.{Settled, Unsettled, settled, unsettled}
+use Rattle.settings.specs.Causes.{passes, take-cube}
 use lib.Seq.{length-take-le}
 use mathlib.Core.List.{List}
 use Rattle.meaning.specs.Values.{bound}
-use Rattle.theory.specs.Ranges.{le-of-between}
+use Rattle.theory.specs.Ranges.{width-high}
 use Rattle.poly.proofs.Replies.{reduce-turned, reduce-length, reduce-accepted}
 use Rattle.meaning.specs.Values.{boxReduced}
 use denote.Ref.{now}
 use Rattle.poly.proofs.reduce.Statement.{statement}
 use Rattle.poly.proofs.reduce.Tie as tie
 
-settings-requires : tie.Need-settings-requires
-settings-requires c κs = search needs
+check-requires : tie.Need-check-requires
+check-requires c κs = search needs
 
 enum-known-refusal : tie.Need-enum-known-refusal
 enum-known-refusal c = search needs
@@ -33,26 +32,26 @@ enum-known-count c = search needs
 -- the settings pass, with as many cells as they say
 ok : (c : tie.After-count) →
     let k = c .before .before .before .before .before .args in
-    Settled false (k .total) (between 2 64 (k .bitwidth)) (k .support .now) (cube (k .support .now) (k .max-degree)) (c .count .given .0 .0)
+    Settled false (k .total) (widthFits (k .bitwidth)) (k .support .now) (cube (k .support .now) (k .max-degree)) (c .count .given .0 .0)
 unfolding settingsReply
 ok c =
     let k = c .before .before .before .before .before .args in
-    settled false (k .total) (between 2 64 (k .bitwidth)) (k .support .now) (cube (k .support .now) (k .max-degree)) (c .before .before .settings .ensures) (c .count .given .1)
+    settled false (k .total) (widthFits (k .bitwidth)) (k .support .now) (cube (k .support .now) (k .max-degree)) (c .before .before .check .ensures) (c .count .given .1)
 
 -- there are at most twenty variables
 short : (c : tie.After-count) → length (c .before .before .before .before .before .args .support .now) ≤ 20
 short c =
     let k = c .before .before .before .before .before .args in
-    passes false (k .total) (between 2 64 (k .bitwidth)) (k .support .now) (cube (k .support .now) (k .max-degree)) (ok c .passes) .short
+    passes tableLimit false (k .total) (widthFits (k .bitwidth)) (k .support .now) (cube (k .support .now) (k .max-degree)) (ok c .passes) .short
 
 -- the settings are turned down
 turned : (c : tie.After-refusal) →
     let k = c .before .before .before .before .before .args in
-    Unsettled false (k .total) (between 2 64 (k .bitwidth)) (k .support .now) (cube (k .support .now) (k .max-degree)) (c .refusal .given .0 .0)
+    Unsettled false (k .total) (widthFits (k .bitwidth)) (k .support .now) (cube (k .support .now) (k .max-degree)) (c .refusal .given .0 .0)
 unfolding settingsReply
 turned c =
     let k = c .before .before .before .before .before .args in
-    unsettled false (k .total) (between 2 64 (k .bitwidth)) (k .support .now) (cube (k .support .now) (k .max-degree)) (c .before .before .settings .ensures) (c .refusal .given .1)
+    unsettled false (k .total) (widthFits (k .bitwidth)) (k .support .now) (cube (k .support .now) (k .max-degree)) (c .before .before .check .ensures) (c .refusal .given .1)
 
 returns : tie.Need-returns
 returns c =
@@ -71,7 +70,7 @@ reduce-box-requires c κs =
     let k = b .before .before .before .before .before .args in
     let ds = cube (k .support .now) (k .max-degree) in (
       c .before .before .if1 .left ∙ ok b .counted ∙ ap cells (sym (take-cube (k .support .now) (k .max-degree) (short b))),
-      le-of-between 2 64 (k .bitwidth) (passes false (k .total) (between 2 64 (k .bitwidth)) (k .support .now) ds (ok b .passes) .width),
+      width-high (k .bitwidth) (passes tableLimit false (k .total) (widthFits (k .bitwidth)) (k .support .now) ds (ok b .passes) .width),
     )
 
 returns-2 : tie.Need-returns-2
@@ -91,7 +90,7 @@ pub reduce-spec : {M : Type 1} → statement M
 reduce-spec =
     tie.close
     (tie.spec
-    settings-requires
+    check-requires
     enum-known-refusal
     enum-known-count
     returns

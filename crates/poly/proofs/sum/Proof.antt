@@ -7,15 +7,14 @@ use lib.Dec.{eqb}
 use lib.ListN.{length, replicate}
 use borrow.Author.Tests.{eq-eqb, ne-eqb}
 use Rattle.meaning.specs.Boxes.{cells}
-use Rattle.meaning.specs.Replies.{between}
-use Rattle.meaning.specs.Settings.{cube}
+use Rattle.meaning.specs.Settings.{tableLimit, widthFits, cube}
 use Rattle.meaning.specs.Calls.{settingsReply}
-use Rattle.answers.specs.Laws.{Settled, Unsettled, settled, unsettled}
-use Rattle.theory.specs.Settings.{passes, take-cube}
+use Rattle.settings.specs.Settled.{Settled, Unsettled, settled, unsettled}
+use Rattle.settings.specs.Causes.{passes, take-cube}
 use lib.Seq.{length-take-le}
 use mathlib.Core.List.{List}
 use Rattle.meaning.specs.Values.{bound, boxTotal}
-use Rattle.theory.specs.Ranges.{le-of-between}
+use Rattle.theory.specs.Ranges.{width-high}
 use Rattle.poly.proofs.Replies.{sum-turned, sum-lengths, sum-accepted}
 use Rattle.poly.proofs.sum.Statement.{statement}
 use Rattle.poly.proofs.sum.Tie as tie
@@ -23,28 +22,28 @@ use Rattle.poly.proofs.sum.Tie as tie
 -- the settings pass, with as many cells as they say
 ok : (c : tie.After-count) →
     let k = c .before .before .before .before .before .before .before .args in
-    Settled false (k .total) (between 2 64 (k .bitwidth)) (k .support .now) (cube (k .support .now) (k .max-degree)) (c .count .given .0 .0)
+    Settled false (k .total) (widthFits (k .bitwidth)) (k .support .now) (cube (k .support .now) (k .max-degree)) (c .count .given .0 .0)
 unfolding settingsReply
 ok c =
     let k = c .before .before .before .before .before .before .before .args in
-    settled false (k .total) (between 2 64 (k .bitwidth)) (k .support .now) (cube (k .support .now) (k .max-degree))
-    (c .before .before .settings .ensures) (c .count .given .1)
+    settled false (k .total) (widthFits (k .bitwidth)) (k .support .now) (cube (k .support .now) (k .max-degree))
+    (c .before .before .check .ensures) (c .count .given .1)
 
 -- there are at most twenty variables
 short : (c : tie.After-count) → length (c .before .before .before .before .before .before .before .args .support .now) ≤ 20
 short c =
     let k = c .before .before .before .before .before .before .before .args in
-    passes false (k .total) (between 2 64 (k .bitwidth)) (k .support .now) (cube (k .support .now) (k .max-degree)) (ok c .passes) .short
+    passes tableLimit false (k .total) (widthFits (k .bitwidth)) (k .support .now) (cube (k .support .now) (k .max-degree)) (ok c .passes) .short
 
 -- the settings are turned down
 turned : (c : tie.After-refusal) →
     let k = c .before .before .before .before .before .before .before .args in
-    Unsettled false (k .total) (between 2 64 (k .bitwidth)) (k .support .now) (cube (k .support .now) (k .max-degree)) (c .refusal .given .0 .0)
+    Unsettled false (k .total) (widthFits (k .bitwidth)) (k .support .now) (cube (k .support .now) (k .max-degree)) (c .refusal .given .0 .0)
 unfolding settingsReply
 turned c =
     let k = c .before .before .before .before .before .before .before .args in
-    unsettled false (k .total) (between 2 64 (k .bitwidth)) (k .support .now) (cube (k .support .now) (k .max-degree))
-    (c .before .before .settings .ensures) (c .refusal .given .1)
+    unsettled false (k .total) (widthFits (k .bitwidth)) (k .support .now) (cube (k .support .now) (k .max-degree))
+    (c .before .before .check .ensures) (c .refusal .given .1)
 
 pub sum-spec : {M : Type 1} → statement M
 sum-spec =
@@ -77,7 +76,7 @@ sum-spec =
     let ds = cube (k .support .now) (k .max-degree) in
     let n = ok (c .before .before .before .before .before .before) .counted ∙ ap cells
     (sym (take-cube (k .support .now) (k .max-degree) (short (c .before .before .before .before .before .before)))) in
-    ((c .before .before .before .before .if1 .left ∙ n, c .before .before .before .if2 .left ∙ n, c .before .before .if3 .left ∙ n), le-of-between 2 64 (k .bitwidth) (passes false (k .total) (between 2 64 (k .bitwidth)) (k .support .now) ds (ok (c .before .before .before .before .before .before) .passes) .width)))
+    ((c .before .before .before .before .if1 .left ∙ n, c .before .before .before .if2 .left ∙ n, c .before .before .if3 .left ∙ n), width-high (k .bitwidth) (passes tableLimit false (k .total) (widthFits (k .bitwidth)) (k .support .now) ds (ok (c .before .before .before .before .before .before) .passes) .width)))
     (λ c. let k = c .before .before .before .before .before .before .before .before .args in sum-turned (k .bitwidth) (k .a .now) (k .b .now)
     (k .out .now) (turned (c .before)))
     (λ c. search needs)

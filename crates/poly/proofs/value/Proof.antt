@@ -8,17 +8,16 @@ use lib.Dec.{eqb}
 use lib.ListN.{length, replicate}
 use borrow.Author.Tests.{eq-eqb, ne-eqb}
 use Rattle.meaning.specs.Boxes.{cells}
-use Rattle.meaning.specs.Replies.{between}
-use Rattle.meaning.specs.Settings.{cube}
+use Rattle.meaning.specs.Settings.{tableLimit, widthFits, cube}
 use Rattle.meaning.specs.Calls.{settingsReply}
-use Rattle.answers.specs.Laws.{Settled, Unsettled, settled, unsettled}
-use Rattle.theory.specs.Settings.{passes, take-cube}
+use Rattle.settings.specs.Settled.{Settled, Unsettled, settled, unsettled}
+use Rattle.settings.specs.Causes.{passes, take-cube}
 use lib.Seq.{length-take-le}
 use mathlib.Core.List.{List}
 use lib.Bits.{bitAnd}
 use native.Mathlib.Omega.{arith}
 use Rattle.meaning.specs.Values.{value}
-use Rattle.theory.specs.Ranges.{le-of-between}
+use Rattle.theory.specs.Ranges.{width-high}
 use Rattle.theory.specs.BoxValues.{value-masked}
 use Rattle.poly.proofs.value.Statement.{statement}
 use Rattle.poly.proofs.value.Tie as tie
@@ -26,28 +25,28 @@ use Rattle.poly.proofs.value.Tie as tie
 -- the settings pass, with as many cells as they say
 ok : (c : tie.After-count) →
     let k = c .before .before .before .before .before .before .args in
-    Settled false (k .total) (between 2 64 (k .bitwidth)) (k .support .now) (cube (k .support .now) (k .max-degree)) (c .count .given .0 .0)
+    Settled false (k .total) (widthFits (k .bitwidth)) (k .support .now) (cube (k .support .now) (k .max-degree)) (c .count .given .0 .0)
 unfolding settingsReply
 ok c =
     let k = c .before .before .before .before .before .before .args in
-    settled false (k .total) (between 2 64 (k .bitwidth)) (k .support .now) (cube (k .support .now) (k .max-degree))
-    (c .before .before .settings .ensures) (c .count .given .1)
+    settled false (k .total) (widthFits (k .bitwidth)) (k .support .now) (cube (k .support .now) (k .max-degree))
+    (c .before .before .check .ensures) (c .count .given .1)
 
 -- there are at most twenty variables
 short : (c : tie.After-count) → length (c .before .before .before .before .before .before .args .support .now) ≤ 20
 short c =
     let k = c .before .before .before .before .before .before .args in
-    passes false (k .total) (between 2 64 (k .bitwidth)) (k .support .now) (cube (k .support .now) (k .max-degree)) (ok c .passes) .short
+    passes tableLimit false (k .total) (widthFits (k .bitwidth)) (k .support .now) (cube (k .support .now) (k .max-degree)) (ok c .passes) .short
 
 -- the settings are turned down
 turned : (c : tie.After-refusal) →
     let k = c .before .before .before .before .before .before .args in
-    Unsettled false (k .total) (between 2 64 (k .bitwidth)) (k .support .now) (cube (k .support .now) (k .max-degree)) (c .refusal .given .0 .0)
+    Unsettled false (k .total) (widthFits (k .bitwidth)) (k .support .now) (cube (k .support .now) (k .max-degree)) (c .refusal .given .0 .0)
 unfolding settingsReply
 turned c =
     let k = c .before .before .before .before .before .before .args in
-    unsettled false (k .total) (between 2 64 (k .bitwidth)) (k .support .now) (cube (k .support .now) (k .max-degree))
-    (c .before .before .settings .ensures) (c .refusal .given .1)
+    unsettled false (k .total) (widthFits (k .bitwidth)) (k .support .now) (cube (k .support .now) (k .max-degree))
+    (c .before .before .check .ensures) (c .refusal .given .1)
 
 pub value-spec : {M : Type 1} → statement M
 value-spec =
@@ -79,7 +78,7 @@ value-spec =
     (λ c.
     let k = c .before .before .before .before .before .before .before .before .before .before .before .before .args in
     let ds = cube (k .support .now) (k .max-degree) in
-    let w = le-of-between 2 64 (k .bitwidth) (passes false (k .total) (between 2 64 (k .bitwidth)) (k .support .now) ds
+    let w = width-high (k .bitwidth) (passes tableLimit false (k .total) (widthFits (k .bitwidth)) (k .support .now) ds
     (ok (c .before .before .before .before .before .before) .passes) .width) in
     let whole = c .before .box-value .ensures ∙ ap (λ (l : List ℕ). value (2 ^ 64) l (k .coeffs .now) (k .point .now))
     (take-cube (k .support .now) (k .max-degree) (short (c .before .before .before .before .before .before))) in

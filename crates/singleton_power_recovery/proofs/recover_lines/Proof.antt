@@ -32,7 +32,7 @@ recover-lines-spec =
     let b = c .before .before .before in let a = b .before .before .before .args in let p = b .before .before .before .pre in
     let end = b .loop .from + a .size in let given = length-part (b .loop .from) end (now (a .values)) (omega arith) in
     let room = length-part (b .loop .from) end (b .loop .out) (omega (arith, b .loop .inv .1 .filled .same)) in
-    (p .0, p .1, omega (arith, given), omega (arith, given), room ∙ sym given))
+    (p .0, omega (arith, given), omega (arith, given), room ∙ sym given))
     (λ c.
     let b = c .before .before .before .before .before .before .before in let a = b .before .before .before .args in
     let end = b .loop .from + a .size in let ys = c .before .before .before .recover-line .last .1 .1 .0 in
@@ -51,7 +51,7 @@ recover-lines-spec =
     let ys = c .before .before .before .recover-line .last .1 .1 .0 in (
       omega arith,
       lines-step (a .bitwidth) (a .size) (now (a .values)) (now (a .out)) (b .loop .out) (b .loop .from) (b .loop .inv .1) (omega arith)
-          (omega arith) ys (b .loop .inv .1 .filled .same ∙ b .before .before .before .pre .4)
+          (omega arith) ys (b .loop .inv .1 .filled .same ∙ b .before .before .before .pre .3)
           (subst (λ (r : Bool). Single (a .bitwidth) (part (b .loop .from) (b .loop .from + a .size) (now (a .values))) ys r) (not-false _ (c .if1 .left))
           (c .before .before .before .recover-line .ensures)),
     ))
@@ -59,4 +59,4 @@ recover-lines-spec =
     (λ c.
     let b = c .before in let a = b .before .before .before .args in
     λ n whole. lines-done (a .bitwidth) (a .size) (now (a .values)) (now (a .out)) (b .loop .out) (b .loop .from) n (b .loop .inv .1)
-    (omega arith) whole (b .before .before .before .pre .4)))
+    (omega arith) whole (b .before .before .before .pre .3)))

@@ -9,7 +9,7 @@ use denote.Ref.{now}
 use Rattle.meaning.specs.Tables.{tabulate}
 use Rattle.meaning.specs.Singletons.{singletonSettings}
 use Rattle.singleton_power_recovery.specs.VariableLines.{too-many, bad-width, wrong-given, wrong-out, settings-pass, settings-number, settings-left, singles-number, singles-left}
-use Rattle.singleton_power_recovery.proofs.Caps.{Capped, capped, uncapped, capped-low, capped-high, capped-long, capped-short, capped-count}
+use Rattle.singleton_power_recovery.proofs.Caps.{Capped, capped, uncapped, capped-long, capped-short, capped-count}
 use Rattle.singleton_power_recovery.proofs.recover_singleton_powers.Statement.{statement}
 use Rattle.singleton_power_recovery.proofs.recover_singleton_powers.Tie as tie
 
@@ -70,7 +70,7 @@ recover-singleton-powers-spec =
     ))
     (λ c κs.
     let o = ok (c .before .before .before .before) in
-    (capped-low o, capped-high o, capped-long o, omega (arith, capped-short o), c .before .if3 .left ∙ sym (c .before .before .if2 .left)))
+    (o .fits, capped-long o, omega (arith, capped-short o), c .before .if3 .left ∙ sym (c .before .before .if2 .left)))
     (λ c. search needs)
     (λ c.
     let e = c .before .before .before .before .before in let k = e .before .before .before .before .before .before .before .before .before .args in

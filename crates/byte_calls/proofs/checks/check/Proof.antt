@@ -12,7 +12,7 @@ use lib.ListN.{length, take, replicate}
 use lib.Seq.{length-take-le}
 use Rattle.byte_calls.specs.ByteLaws.{length-decoded}
 use Rattle.byte_calls.specs.Calls.{holds}
-use Rattle.byte_calls.specs.CallLaws.{box-uncounted, box-reply, box-crowded}
+use Rattle.byte_calls.specs.CallLaws.{box-uncounted, box-reply}
 use Rattle.byte_calls.proofs.checks.check.Tie as tie
 
 -- the support has its count of entries
@@ -36,7 +36,7 @@ check-spec =
     (λ c κs. search needs)
     (λ c. box-uncounted _ _ _ _ _ _ (sym (c .before .holds .ensures) ∙ not-true _ (c .if1 .taken)) _)
     (λ c κs. let b = c .before in omega (arith, length-decoded (now (b .before .before .before .args .support)) _ (bytes b), c .if2 .taken))
-    (λ c. box-crowded _ _ _ _ _ _ (counted (c .before .before)) (c .crowded .result) (c .crowded .ensures) _)
+    (λ c. box-reply _ _ _ _ _ _ (counted (c .before .before)) _ (c .crowded .ensures))
     (λ c. search needs)
     (λ c. room (c .before))
     (λ c κs. let b = c .before .before in bytes b ∙ ap (_* 8) (room (c .before)))

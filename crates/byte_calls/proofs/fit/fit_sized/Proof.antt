@@ -14,7 +14,7 @@ use lib.Seq.{length-take-le}
 use Rattle.meaning.specs.Boxes.{cells}
 use Rattle.meaning.specs.Settings.{cube}
 use Rattle.meaning.specs.Fit.{Fit, fitRows, fitColumns}
-use Rattle.theory.specs.Settings.{take-cube}
+use Rattle.settings.specs.Causes.{take-cube}
 use Rattle.theory.specs.FitSizes.{cells-cube-le}
 use Rattle.answers.specs.declared.Refusal.the-variants.{TooLarge, WrongLength}
 use Rattle.byte_calls.specs.Bytes.{decoded}
@@ -62,7 +62,7 @@ box c =
 counted : (c : tie.After-count-cells) → c .count-cells .result ≡ cells (asked (start (grid-of c)) .degrees)
 counted c =
     c .count-cells .ensures
-    ∙ ap (λ (l : List ℕ). min (cells l) 65537) (box (c .before .before))
+    ∙ ap (λ (l : List ℕ). min (cells l) 4097) (box (c .before .before))
     ∙ min-eq-left (le-trans (box-le (start (grid-of c))) (omega arith))
 
 -- what the test of the lengths says
@@ -92,7 +92,7 @@ pub fit-sized-spec : {M : Type 1} → statement M
 fit-sized-spec =
     tie.close
     (tie.spec
-    (λ c. search needs)
+    (λ c. search needs) (λ c. search needs)
     (λ c.
     let s = c .before .before .before .before .before in
     let t = fit-large _ _ _ _ _ _ (now (s .args .weights)) (now (s .args .targets)) (now (s .args .out)) (s .pre .0) TooLarge refl

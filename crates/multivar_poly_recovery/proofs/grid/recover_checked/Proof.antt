@@ -11,8 +11,8 @@ use Rattle.meaning.specs.Boxes.{cells}
 use Rattle.meaning.specs.Recovery.{accepts, answer}
 use Rattle.meaning.specs.Settings.{cube, first}
 use Rattle.meaning.specs.Calls.{inOutNumber, recoveryNumber, recoveryLeft, left}
-use Rattle.theory.specs.Settings.{take-cube}
-use Rattle.theory.specs.AcceptedCalls.{Ready, ready, ready-passes, ready-high}
+use Rattle.settings.specs.Causes.{take-cube, ready-passes, ready-high}
+use Rattle.theory.specs.AcceptedCalls.{Ready, ready}
 use Rattle.answers.specs.Said.{saidNumber}
 use Rattle.answers.specs.Laws.{first-code, left-code}
 use Rattle.multivar_poly_recovery.proofs.grid.recover_checked.Statement.{statement}

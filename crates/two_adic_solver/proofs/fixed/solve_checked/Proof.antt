@@ -1,29 +1,44 @@
 -- A bad width is the bare solver's 3 (`fixed-width`). Else the arrays are four by four, and what `solve_with` ends in is the bare solver's answer.
-use Rattle.two_adic_solver.proofs.fixed.solve_checked.Statement.{statement}
-use mathlib.Core.Path.{refl}
-use Rattle.theory.specs.Ranges.{between-low, between-high}
+use borrow.Author.Needs.{needs}
+use borrow.Author.Tests.{not-true, not-false}
+use mathlib.Core.Path.{_≡_, refl, sym, _∙_}
+use mathlib.Core.Bool.{true}
+use Rattle.meaning.specs.Settings.{widthFits}
+use Rattle.theory.specs.Ranges.{width-high}
 use Rattle.two_adic_solver.proofs.SolverLaws.{unmarked}
 use Rattle.two_adic_solver.proofs.FixedCalls.{square-good, length-good, fixed-width, fixed-solved}
-use borrow.Author.Needs.{needs}
+use Rattle.two_adic_solver.proofs.fixed.solve_checked.Statement.{statement}
 use Rattle.two_adic_solver.proofs.fixed.solve_checked.Tie as tie
+
+abbrev start : tie.Else1 → tie.Start
+start c = c .before .before
+
+-- the width passed
+abbrev wide : tie.After-answer → tie.Else1
+wide c = c .before .before .before .before .before
+
+fits : (c : tie.Else1) → widthFits (start c .args .bitwidth) ≡ true
+fits c = sym (c .before .width-fits .ensures) ∙ not-false _ (c .if1 .left)
+
+abbrev solved : tie.After-answer2 → tie.After-solve-with
+solved c = c .before .before .before .before
 
 pub solve-checked-spec : {M : Type 1} → statement M
 solve-checked-spec =
     tie.close
     (tie.spec
-    (λ c. fixed-width _ _ _ (between-low 2 64 _ (c .if1 .taken)))
-    (λ c. fixed-width _ _ _ (between-high 2 64 _ (c .if2 .taken)))
+    (λ c κs. search needs)
+    (λ c. fixed-width _ _ _ (sym (c .before .width-fits .ensures) ∙ not-true _ (c .if1 .taken)))
     (λ c. search needs) (λ c. search needs) (λ c. search needs) (λ c. search needs)
     (λ c κs.
-    let s = c .before .before .before .before .before .before .before in
+    let s = start (wide c) in
     let g = s .good in (
       (square-good _ _ (g .0), length-good (s .args .right) _ (g .1 .0), refl, refl, refl),
-      (c .before .before .before .before .before .if2 .left, λ i l. unmarked 4 i),
+      (width-high _ (fits (wide c)), λ i l. unmarked 4 i),
     ))
     (λ c.
-    let s = c .before .before .before .before .before .before .before .before .before .before .before .before in
+    let k = solved c in
+    let s = start (wide (k .before)) in
     let g = s .good in
     fixed-solved _ (s .args .matrix) (s .args .right) (square-good _ _ (g .0)) (length-good (s .args .right) _ (g .1 .0))
-    (c .before .before .before .before .before .before .before .before .before .before .before .if1 .left)
-    (c .before .before .before .before .before .before .before .before .before .before .if2 .left) _ _ _ _
-    (c .before .before .before .before .solve-with .ensures)))
+    (fits (wide (k .before))) _ _ _ _ (k .solve-with .ensures)))

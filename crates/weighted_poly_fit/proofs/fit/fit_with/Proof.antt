@@ -39,7 +39,7 @@ fit-with-spec =
     let m : length (k .last .1 .0) ≡ length (s .args .matrix .now) = omega arith in
     let r : length (k .last .1 .1 .0) ≡ length (s .args .right .now) = omega arith in (
       record {
-        low = h .low;
+        fits = h .fits;
         high = h .high;
         some = omega (arith, e .counted, columns-pos (s .args .degrees .now) (s .args .most));
         few = e .columns-few;

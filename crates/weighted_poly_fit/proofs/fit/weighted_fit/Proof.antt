@@ -10,14 +10,13 @@ use lib.ListN.{length, replicate}
 use lib.Seq.{length-take-le}
 use Rattle.meaning.specs.Tables.{at}
 use Rattle.meaning.specs.Boxes.{cells}
-use Rattle.meaning.specs.Replies.{between}
-use Rattle.meaning.specs.Settings.{cube}
+use Rattle.meaning.specs.Settings.{tableLimit, widthFits, cube}
 use Rattle.meaning.specs.Calls.{settingsReply}
 use Rattle.meaning.specs.Fit.{Fit, fitOf}
-use Rattle.theory.specs.Settings.{Passes, passes, settings-cells-le, take-cube}
-use Rattle.theory.specs.AcceptedCalls.{width-low, width-high}
+use Rattle.theory.specs.Ranges.{width-high}
+use Rattle.settings.specs.Causes.{Passes, passes, settings-cells-le, take-cube}
 use Rattle.theory.specs.FitSizes.{cells-cube-le}
-use Rattle.answers.specs.Laws.{Settled, Unsettled, settled, unsettled}
+use Rattle.settings.specs.Settled.{Settled, Unsettled, settled, unsettled}
 use Rattle.weighted_poly_fit.proofs.FitCalls.{cube-low, call-settled, call-turned, fitted-degrees}
 use Rattle.weighted_poly_fit.proofs.fit.weighted_fit.Statement.{statement}
 use Rattle.weighted_poly_fit.proofs.fit.weighted_fit.Tie as tie
@@ -32,29 +31,29 @@ asked s =
 -- the settings pass, with as many cells as they say
 ok : (c : tie.After-rows) →
     let k = c .before .before .before .before .before .before .before .before .before .args in
-    Settled false (k .total) (between 2 64 (k .bitwidth)) (k .support .now) (cube (k .support .now) (k .grid-degree)) (c .rows .given .0 .0)
+    Settled false (k .total) (widthFits (k .bitwidth)) (k .support .now) (cube (k .support .now) (k .grid-degree)) (c .rows .given .0 .0)
 unfolding settingsReply
 ok c =
     let k = c .before .before .before .before .before .before .before .before .before .args in
-    settled false (k .total) (between 2 64 (k .bitwidth)) (k .support .now) (cube (k .support .now) (k .grid-degree))
-    (c .before .before .settings .ensures) (c .rows .given .1)
+    settled false (k .total) (widthFits (k .bitwidth)) (k .support .now) (cube (k .support .now) (k .grid-degree))
+    (c .before .before .check .ensures) (c .rows .given .1)
 
 pass : (c : tie.After-rows) →
     let k = c .before .before .before .before .before .before .before .before .before .args in
-    Passes (k .total) (between 2 64 (k .bitwidth)) (k .support .now)
+    Passes (k .total) (widthFits (k .bitwidth)) (k .support .now)
 pass c =
     let k = c .before .before .before .before .before .before .before .before .before .args in
-    passes false (k .total) (between 2 64 (k .bitwidth)) (k .support .now) (cube (k .support .now) (k .grid-degree)) (ok c .passes)
+    passes tableLimit false (k .total) (widthFits (k .bitwidth)) (k .support .now) (cube (k .support .now) (k .grid-degree)) (ok c .passes)
 
 -- the settings are turned down
 turned : (c : tie.After-refusal) →
     let k = c .before .before .before .before .before .before .before .before .before .args in
-    Unsettled false (k .total) (between 2 64 (k .bitwidth)) (k .support .now) (cube (k .support .now) (k .grid-degree)) (c .refusal .given .0 .0)
+    Unsettled false (k .total) (widthFits (k .bitwidth)) (k .support .now) (cube (k .support .now) (k .grid-degree)) (c .refusal .given .0 .0)
 unfolding settingsReply
 turned c =
     let k = c .before .before .before .before .before .before .before .before .before .args in
-    unsettled false (k .total) (between 2 64 (k .bitwidth)) (k .support .now) (cube (k .support .now) (k .grid-degree))
-    (c .before .before .settings .ensures) (c .refusal .given .1)
+    unsettled false (k .total) (widthFits (k .bitwidth)) (k .support .now) (cube (k .support .now) (k .grid-degree))
+    (c .before .before .check .ensures) (c .refusal .given .1)
 
 pub weighted-fit-spec : {M : Type 1} → statement M
 weighted-fit-spec =
@@ -82,7 +81,7 @@ weighted-fit-spec =
     let t = take-cube support d (p .short) in
     let long = length-take-le n (replicate 20 d) (p .short) in (
       record {
-        low = width-low (k .bitwidth) (p .width);
+        fits = p .width;
         high = width-high (k .bitwidth) (p .width);
         same = length-take-le n (replicate 20 (k .grid-degree)) (p .short) ∙ sym long;
         variables-few = le-trans (le-of-eq long) (p .short);
@@ -92,7 +91,7 @@ weighted-fit-spec =
       (
         r .counted ∙ ap cells (sym g),
         le-trans (le-of-eq (r .counted))
-            (settings-cells-le false (k .total) (between 2 64 (k .bitwidth)) support (cube support (k .grid-degree)) (r .passes)),
+            (settings-cells-le tableLimit false (k .total) (widthFits (k .bitwidth)) support (cube support (k .grid-degree)) (r .passes)),
         le-trans (le-of-eq (ap cells t ∙ ap (λ (i : ℕ). cells (replicate n i)) (l .ensures)))
             (le-trans (cells-cube-le n (k .max-degree) (k .grid-degree)) (le-of-eq (sym (r .counted)))),
       ),

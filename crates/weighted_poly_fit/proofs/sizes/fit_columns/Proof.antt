@@ -12,13 +12,14 @@ use lib.Dec.{ltb}
 use lib.ListN.{length, take, replicate}
 use lib.Seq.{length-take-le}
 use Rattle.meaning.specs.Boxes.{cells}
-use Rattle.meaning.specs.Replies.{between, accepted}
-use Rattle.meaning.specs.Settings.{cube, first}
+use Rattle.meaning.specs.Replies.{accepted}
+use Rattle.meaning.specs.Settings.{tableLimit, widthFits, cube, first}
 use Rattle.meaning.specs.Calls.{reply, settingsReply}
 use Rattle.meaning.specs.Fit.{Fit, columns, fitColumns, fitRows}
-use Rattle.theory.specs.Settings.{Passes, passes, settings-cells-le, take-cube}
+use Rattle.settings.specs.Causes.{Passes, passes, settings-cells-le, take-cube}
 use Rattle.theory.specs.FitSizes.{cells-cube-le}
-use Rattle.answers.specs.Laws.{Settled, Unsettled, settled, unsettled, reply-code, first-code}
+use Rattle.answers.specs.Laws.{reply-code, first-code}
+use Rattle.settings.specs.Settled.{Settled, Unsettled, settled, unsettled}
 use Rattle.weighted_poly_fit.specs.Sizes.{fitSettings, sizeCause}
 use Rattle.weighted_poly_fit.proofs.ColumnCount.{columns-le-cells}
 use Rattle.weighted_poly_fit.proofs.sizes.fit_columns.Statement.{statement}
@@ -34,22 +35,22 @@ start c = c .before .before .before .before
 -- the settings pass, with as many cells as they say
 ok : (c : tie.After-rows) →
     let k = start c .args in
-    Settled false (k .total) (between 2 64 (k .bitwidth)) (now (k .support)) (cube (now (k .support)) (k .grid-degree)) (c .rows .given .0 .0)
+    Settled false (k .total) (widthFits (k .bitwidth)) (now (k .support)) (cube (now (k .support)) (k .grid-degree)) (c .rows .given .0 .0)
 unfolding settingsReply
-ok c = settled _ _ _ _ _ (c .before .before .settings .ensures) (c .rows .given .1)
+ok c = settled _ _ _ _ _ (c .before .before .check .ensures) (c .rows .given .1)
 
-pass : (c : tie.After-rows) → let k = start c .args in Passes (k .total) (between 2 64 (k .bitwidth)) (now (k .support))
-pass c = passes _ _ _ _ _ (ok c .passes)
+pass : (c : tie.After-rows) → let k = start c .args in Passes (k .total) (widthFits (k .bitwidth)) (now (k .support))
+pass c = passes tableLimit _ _ _ _ _ (ok c .passes)
 
 -- the settings are turned down
 turned : (c : tie.After-refusal) →
     let k = c .before .before .before .before .args in
-    Unsettled false (k .total) (between 2 64 (k .bitwidth)) (now (k .support)) (cube (now (k .support)) (k .grid-degree)) (c .refusal .given .0 .0)
+    Unsettled false (k .total) (widthFits (k .bitwidth)) (now (k .support)) (cube (now (k .support)) (k .grid-degree)) (c .refusal .given .0 .0)
 unfolding settingsReply
-turned c = unsettled _ _ _ _ _ (c .before .before .settings .ensures) (c .refusal .given .1)
+turned c = unsettled _ _ _ _ _ (c .before .before .check .ensures) (c .refusal .given .1)
 
 rows-le : (c : tie.After-rows) → c .rows .given .0 .0 ≤ 65536
-rows-le c = le-trans (le-of-eq (ok c .counted)) (settings-cells-le _ _ _ _ _ (ok c .passes))
+rows-le c = le-trans (le-of-eq (ok c .counted)) (settings-cells-le tableLimit _ _ _ _ _ (ok c .passes))
 
 -- the degrees that are lent are those of the answer's box, which has no more cells than the grid
 box : (c : tie.After-lesser-degree) →
@@ -63,7 +64,7 @@ box c =
 box-le : (c : tie.After-rows) → cells (asked (start c) .degrees) ≤ 65536
 box-le c =
     let k = start c .args in
-    le-trans (cells-cube-le (length (now (k .support))) (k .max-degree) (k .grid-degree)) (settings-cells-le _ _ _ _ _ (ok c .passes))
+    le-trans (cells-cube-le (length (now (k .support))) (k .max-degree) (k .grid-degree)) (settings-cells-le tableLimit _ _ _ _ _ (ok c .passes))
 
 -- the columns and the entries of the matrix
 abbrev rows-of : tie.After-count-columns → tie.After-rows

@@ -1,0 +1,2 @@
+-- The one module: cells counted variable by variable.
+pub mod Counted
