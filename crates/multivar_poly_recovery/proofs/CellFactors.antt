@@ -18,6 +18,7 @@ use Rattle.theory.specs.Binomials.{factorial-pos}
 use Rattle.theory.specs.Twos.{oddPart-odd, odd-mul}
 use Rattle.theory.specs.Inverses.{inverse-serves, inverse-unique, inverse-cut}
 use Rattle.theory.specs.Widths.{oddFactor-odd}
+use Rattle.theory.specs.LastVariable.{weight-append}
 use Rattle.theory.specs.LastVariable.{cells-snoc, digits-snoc}
 
 -- ---- the last variable
@@ -54,11 +55,6 @@ unfolding oddFactor
 inverse-more e hs = inverse-mul (oddPart (factorial e)) (oddFactor hs) (oddPart-odd (factorial e) (factorial-pos e)) (oddFactor-odd hs)
 
 -- ---- the exponents of two groups of variables
-
-pub weight-append : (es hs : List ℕ) → weight (es ++ hs) ≡ weight es + weight hs
-unfolding weight
-weight-append [] hs = omega arith
-weight-append (e ∷ es) hs = omega (arith, weight-append es hs)
 
 oddFactor-append : (es hs : List ℕ) → oddFactor (es ++ hs) ≡ oddFactor es * oddFactor hs
 unfolding oddFactor

@@ -14,7 +14,7 @@ use Rattle.meaning.specs.Settings.{tableLimit, widthFits, callNumber, first}
 use Rattle.meaning.specs.Calls.{reply, truth, Form, formNumber, sameList, left}
 use Rattle.meaning.specs.Calls.{validReply, valueReply, sameReply, sumNumber, sumLeft, reduceNumber, reduceLeft}
 use Rattle.settings.specs.Causes.{passes}
-use Rattle.theory.specs.BoxBounds.{isBelow}
+use Rattle.box_rows.specs.Bounds.{isBelow}
 use Rattle.demand3.specs.Settings.{ValuePasses, ValidPasses, SumPasses, ReducePasses}
 use Rattle.demand3.specs.Promises.{Valued, Judged, Summed, Reduced}
 use Rattle.demand3.specs.BoxCalls.{table-valued, judged, summed, reduced}
@@ -59,7 +59,7 @@ module _ (w : ℕ) (c xs : List ℕ) {total : ℕ} {support ds : List ℕ} where
 abbrev pub isNormal : ℕ → List ℕ → List ℕ → Bool
 isNormal w ds c = widthFits w && every (cells ds) (isBelow w ds c)
 
-abbrev ValidSaid : ℕ → ℕ → List ℕ → List ℕ → List ℕ → Reply → Type 0
+abbrev pub ValidSaid : ℕ → ℕ → List ℕ → List ℕ → List ℕ → Reply → Type 0
 ValidSaid total w support ds c r = (r ≡ validReply total w support ds c) × Judged (ValidPasses total support ds c) w ds c r
 
 module _ (w : ℕ) (c : List ℕ) {total : ℕ} {support ds : List ℕ} where

@@ -39,7 +39,7 @@ pub fn is_valid(coeffs: &[u64], support: &[u64], total: u32, bitwidth: u32, max_
                 return Truth::No;
             }
             let degrees = [max_degree; 20];
-            if cells::bounded(coeffs, &degrees[..support.len()], bitwidth) {
+            if box_rows::bounded(coeffs, &degrees[..support.len()], bitwidth) {
                 return Truth::Yes;
             }
             Truth::No
@@ -110,7 +110,7 @@ pub fn sum(
                 return Outcome::Refused(Refusal::WrongLength);
             }
             let degrees = [max_degree; 20];
-            cells::box_sum(a, b, &degrees[..support.len()], bitwidth, out);
+            box_rows::sum(a, b, &degrees[..support.len()], bitwidth, out);
             Outcome::Accepted
         }
     }
@@ -202,7 +202,7 @@ pub fn reduce(
                 return Outcome::Refused(Refusal::WrongLength);
             }
             let degrees = [max_degree; 20];
-            cells::reduce_box(coeffs, &degrees[..support.len()], bitwidth);
+            box_rows::reduce(coeffs, &degrees[..support.len()], bitwidth);
             Outcome::Accepted
         }
     }

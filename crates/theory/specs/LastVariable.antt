@@ -42,10 +42,14 @@ digits-snoc (x ∷ xs) d e r h p =
     ∙ ap (digits (xs ++ (d ∷ []))) (digits-div (e * cells xs + q) small)
     ∙ digits-snoc xs d e q h (div-lt-iff-lt-mul (zero-lt-suc x) .1 p))
 
+pub weight-append : (es hs : List ℕ) → weight (es ++ hs) ≡ weight es + weight hs
+unfolding weight
+weight-append [] hs = omega arith
+weight-append (e ∷ es) hs = omega (arith, weight-append es hs)
+
 weight-snoc : (es : List ℕ) (e : ℕ) → weight (es ++ (e ∷ [])) ≡ twos (factorial e) + weight es
 unfolding weight
-weight-snoc [] e = refl
-weight-snoc (x ∷ xs) e = omega (arith, weight-snoc xs e)
+weight-snoc es e = omega (arith, weight-append es (e ∷ []))
 
 product-snoc : (f : ℕ → ℕ → ℕ) (xs es : List ℕ) (e : ℕ) →
     product f (suc (length es)) xs (es ++ (e ∷ [])) ≡ f (at xs (length es)) e * product f (length es) xs es

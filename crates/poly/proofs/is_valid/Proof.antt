@@ -1,20 +1,22 @@
 -- Settings without the width, then the length, then the width, then the walk.
 use borrow.Author.Needs.{needs}
 use mathlib.Core.Path.{_≡_, _∙_, sym, ap, ap₂}
-use mathlib.Core.Bool.{true, false, _&&_}
+use mathlib.Core.Bool.{Bool, true, false, _&&_}
 use Prim.Native.Nat.{ℕ, _≤_}
 use lib.ListN.{length, replicate}
 use borrow.Author.Tests.{eq-eqb, ne-eqb, not-true, not-false}
 use Rattle.meaning.specs.Boxes.{cells}
+use Rattle.meaning.specs.Replies.{accepted}
+use Rattle.meaning.specs.Calls.{truth}
 use Rattle.meaning.specs.Settings.{tableLimit, widthFits, cube}
 use Rattle.settings.specs.Settled.{Settled, Unsettled, settled, unsettled}
-use Rattle.settings.specs.Causes.{passes, take-cube}
+use Rattle.settings.specs.Causes.{passes, settings-cells-le, take-cube}
 use lib.Seq.{length-take-le}
-use mathlib.Core.List.{List}
 use Rattle.meaning.specs.Recovery.{every}
 use Rattle.theory.specs.Ranges.{width-high}
-use Rattle.theory.specs.BoxBounds.{isBelow}
-use Rattle.poly.proofs.Replies.{valid-turned, valid-length, valid-accepted}
+use Rattle.box_rows.specs.Bounds.{isBelow}
+use Rattle.box_rows.specs.Held.{bounded-held}
+use Rattle.poly.proofs.Replies.{ValidSaid, valid-turned, valid-length, valid-accepted}
 use Rattle.poly.proofs.is_valid.Statement.{statement}
 use Rattle.poly.proofs.is_valid.Tie as tie
 
@@ -44,6 +46,38 @@ turned c =
 wide : (c : tie.Else2) → widthFits (c .before .before .before .before .before .before .before .before .before .args .bitwidth) ≡ true
 wide c = sym (c .before .width-fits .ensures) ∙ not-false _ (c .if2 .left)
 
+-- the coefficients that are tested, of settings that pass
+abbrev given : tie.After-bounded → tie.After-count
+given c = c .before .before .before .before .before .before
+
+abbrev lent : tie.After-count → tie.Start
+lent c = c .before .before .before .before .before
+
+long : (c : tie.After-bounded) → let k = lent (given c) .args in length (k .coeffs .now) ≡ cells (cube (k .support .now) (k .max-degree))
+long c = c .before .before .before .before .if1 .left ∙ ok (given c) .counted
+
+-- what the test says
+tested : (c : tie.After-bounded) →
+    let k = lent (given c) .args in
+    let ds = cube (k .support .now) (k .max-degree) in
+    every (cells ds) (isBelow (k .bitwidth) ds (k .coeffs .now)) ≡ c .bounded .result
+tested c =
+    let k = lent (given c) .args in
+    let ds = cube (k .support .now) (k .max-degree) in
+    sym
+    (bounded-held ds (k .bitwidth) (settings-cells-le tableLimit false (k .total) true (k .support .now) ds (ok (given c) .passes))
+    (width-high (k .bitwidth) (wide (c .before .before))) (k .coeffs .now) _ (long c)
+    (rw (take-cube (k .support .now) (k .max-degree) (short (given c))) at (c .bounded .ensures)))
+
+-- the answer that the test gives
+judged : (c : tie.After-bounded) (b : Bool) →
+    let k = lent (given c) .args in
+    let ds = cube (k .support .now) (k .max-degree) in
+    every (cells ds) (isBelow (k .bitwidth) ds (k .coeffs .now)) ≡ b → ValidSaid (k .total) (k .bitwidth) (k .support .now) ds (k .coeffs .now) (accepted (truth b))
+judged c b e =
+    let k = lent (given c) .args in
+    valid-accepted (k .bitwidth) (k .coeffs .now) (ok (given c)) (eq-eqb _ _ (long c)) b (ap₂ _&&_ (wide (c .before .before)) e)
+
 pub is-valid-spec : {M : Type 1} → statement M
 is-valid-spec =
     tie.close
@@ -63,27 +97,7 @@ is-valid-spec =
     (λ c. sym (length-take-le (length (c .before .before .before .before .before .before .before .before .before .before .args .support .now))
     (replicate 20 (c .before .before .before .before .before .before .before .before .before .before .args .max-degree))
     (short (c .before .before .before .before .before))))
-    (λ c κs.
-    let k = c .before .before .before .before .before .before .before .before .before .before .args in (
-      c .before .before .before .if1 .left ∙ ok (c .before .before .before .before .before) .counted ∙ ap cells
-          (sym (take-cube (k .support .now) (k .max-degree) (short (c .before .before .before .before .before)))),
-      width-high (k .bitwidth)
-          (wide (c .before)),
-    ))
-    (λ c.
-    let k = c .before .before .before .before .before .before .before .before .before .before .before .before .args in
-    valid-accepted (k .bitwidth) (k .coeffs .now) (ok (c .before .before .before .before .before .before .before))
-    (eq-eqb _ _ (c .before .before .before .before .before .if1 .left ∙ ok
-    (c .before .before .before .before .before .before .before) .counted)) true
-    (ap₂ _&&_ (wide (c .before .before .before)) (sym (c .before .bounded .ensures ∙ ap
-    (λ (l : List ℕ). every (cells l) (isBelow (k .bitwidth) l (k .coeffs .now)))
-    (take-cube (k .support .now) (k .max-degree) (short (c .before .before .before .before .before .before .before)))) ∙ c .if3 .taken)))
+    (λ c κs. search needs)
+    (λ c. judged (c .before) true (tested (c .before) ∙ c .if3 .taken))
     (λ c. let k = c .before .before .before .before .before .before .args in valid-turned (k .bitwidth) (k .coeffs .now) (turned (c .before)))
-    (λ c.
-    let k = c .before .before .before .before .before .before .before .before .before .before .before .before .args in
-    valid-accepted (k .bitwidth) (k .coeffs .now) (ok (c .before .before .before .before .before .before .before))
-    (eq-eqb _ _ (c .before .before .before .before .before .if1 .left ∙ ok
-    (c .before .before .before .before .before .before .before) .counted)) false
-    (ap₂ _&&_ (wide (c .before .before .before)) (sym (c .before .bounded .ensures ∙ ap
-    (λ (l : List ℕ). every (cells l) (isBelow (k .bitwidth) l (k .coeffs .now)))
-    (take-cube (k .support .now) (k .max-degree) (short (c .before .before .before .before .before .before .before)))) ∙ c .if3 .left))))
+    (λ c. judged (c .before) false (tested (c .before) ∙ c .if3 .left)))

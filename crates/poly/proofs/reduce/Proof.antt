@@ -1,21 +1,18 @@
 -- Settings, then the length, then the walk over the box, whose degrees are a part of twenty copies; `Replies` has a lemma for each of the three returns.
 use borrow.Author.Needs.{needs}
-use mathlib.Core.Path.{_∙_, sym, ap}
+use mathlib.Core.Path.{_∙_, sym}
 use mathlib.Core.Bool.{false}
 use Prim.Native.Nat.{ℕ, _≤_}
 use lib.ListN.{length}
 use borrow.Author.Tests.{eq-eqb, ne-eqb}
-use Rattle.meaning.specs.Boxes.{cells}
 use Rattle.meaning.specs.Settings.{tableLimit, widthFits, cube}
 use Rattle.meaning.specs.Calls.{settingsReply}
 use Rattle.settings.specs.Settled.{Settled, Unsettled, settled, unsettled}
-use Rattle.settings.specs.Causes.{passes, take-cube}
+use Rattle.settings.specs.Causes.{passes, settings-cells-le, take-cube}
 use lib.Seq.{length-take-le}
-use mathlib.Core.List.{List}
-use Rattle.meaning.specs.Values.{bound}
 use Rattle.theory.specs.Ranges.{width-high}
 use Rattle.poly.proofs.Replies.{reduce-turned, reduce-length, reduce-accepted}
-use Rattle.meaning.specs.Values.{boxReduced}
+use Rattle.box_rows.specs.Held.{reduce-held}
 use denote.Ref.{now}
 use Rattle.poly.proofs.reduce.Statement.{statement}
 use Rattle.poly.proofs.reduce.Tie as tie
@@ -61,17 +58,11 @@ returns c =
 array-share-prefix-degrees : tie.Need-array-share-prefix-degrees
 array-share-prefix-degrees c = short (c .before .before .before)
 
-slice-aggregate-reduce-box : tie.Need-slice-aggregate-reduce-box
-slice-aggregate-reduce-box c = sym (length-take-le _ _ (short (c .before .before .before .before)))
+slice-aggregate-reduce : tie.Need-slice-aggregate-reduce
+slice-aggregate-reduce c = sym (length-take-le _ _ (short (c .before .before .before .before)))
 
-reduce-box-requires : tie.Need-reduce-box-requires
-reduce-box-requires c κs =
-    let b = c .before .before .before .before in
-    let k = b .before .before .before .before .before .args in
-    let ds = cube (k .support .now) (k .max-degree) in (
-      c .before .before .if1 .left ∙ ok b .counted ∙ ap cells (sym (take-cube (k .support .now) (k .max-degree) (short b))),
-      width-high (k .bitwidth) (passes tableLimit false (k .total) (widthFits (k .bitwidth)) (k .support .now) ds (ok b .passes) .width),
-    )
+reduce-requires : tie.Need-reduce-requires
+reduce-requires c κs = search needs
 
 returns-2 : tie.Need-returns-2
 returns-2 c = let k = c .before .before .before .before .before .before .args in reduce-turned (k .bitwidth) (k .coeffs .now) (turned (c .before))
@@ -83,8 +74,13 @@ returns-3 : tie.Need-returns-3
 returns-3 c =
     let b = c .before .before .before .before .before .before .before in
     let k = b .before .before .before .before .before .args in
-    reduce-accepted (k .bitwidth) (k .coeffs .now) (ok b) (eq-eqb _ _ (c .before .before .before .before .before .if1 .left ∙ ok b .counted))
-    (c .before .before .reduce-box .ensures ∙ ap (λ (l : List ℕ). boxReduced (bound (k .bitwidth)) l (k .coeffs .now)) (take-cube (k .support .now) (k .max-degree) (short b)))
+    let ds = cube (k .support .now) (k .max-degree) in
+    let same = take-cube (k .support .now) (k .max-degree) (short b) in
+    let long = c .before .before .before .before .before .if1 .left ∙ ok b .counted in
+    reduce-accepted (k .bitwidth) (k .coeffs .now) (ok b) (eq-eqb _ _ long)
+    (reduce-held ds (k .bitwidth) (settings-cells-le tableLimit false (k .total) (widthFits (k .bitwidth)) (k .support .now) ds (ok b .passes))
+    (width-high (k .bitwidth) (passes tableLimit false (k .total) (widthFits (k .bitwidth)) (k .support .now) ds (ok b .passes) .width)) (k .coeffs .now) _ long
+    (rw same at (c .before .before .reduce .ensures)))
 
 pub reduce-spec : {M : Type 1} → statement M
 reduce-spec =
@@ -95,8 +91,8 @@ reduce-spec =
     enum-known-count
     returns
     array-share-prefix-degrees
-    slice-aggregate-reduce-box
-    reduce-box-requires
+    slice-aggregate-reduce
+    reduce-requires
     returns-2
     same-length
     returns-3)

@@ -1,6 +1,6 @@
 -- Settings, then the three lengths, then the walk.
 use borrow.Author.Needs.{needs}
-use mathlib.Core.Path.{_∙_, sym, ap, ap₂}
+use mathlib.Core.Path.{_≡_, _∙_, sym, ap, ap₂}
 use mathlib.Core.Bool.{Bool, false, _&&_}
 use Prim.Native.Nat.{ℕ, _≤_}
 use lib.Dec.{eqb}
@@ -10,10 +10,9 @@ use Rattle.meaning.specs.Boxes.{cells}
 use Rattle.meaning.specs.Settings.{tableLimit, widthFits, cube}
 use Rattle.meaning.specs.Calls.{settingsReply}
 use Rattle.settings.specs.Settled.{Settled, Unsettled, settled, unsettled}
-use Rattle.settings.specs.Causes.{passes, take-cube}
+use Rattle.settings.specs.Causes.{passes, settings-cells-le, take-cube}
 use lib.Seq.{length-take-le}
-use mathlib.Core.List.{List}
-use Rattle.meaning.specs.Values.{bound, boxTotal}
+use Rattle.box_rows.specs.Held.{sum-held}
 use Rattle.theory.specs.Ranges.{width-high}
 use Rattle.poly.proofs.Replies.{sum-turned, sum-lengths, sum-accepted}
 use Rattle.poly.proofs.sum.Statement.{statement}
@@ -45,6 +44,23 @@ turned c =
     unsettled false (k .total) (widthFits (k .bitwidth)) (k .support .now) (cube (k .support .now) (k .max-degree))
     (c .before .before .check .ensures) (c .refusal .given .1)
 
+-- the boxes that are summed, of settings that pass
+abbrev given : tie.After-sum → tie.After-count
+given c = c .before .before .before .before .before .before .before
+
+abbrev lent : tie.After-count → tie.Start
+lent c = c .before .before .before .before .before .before .before
+
+-- there is a number for each cell in each table
+lengths : (c : tie.After-sum) →
+    let k = lent (given c) .args in
+    let n = cells (cube (k .support .now) (k .max-degree)) in
+    (length (k .a .now) ≡ n) × (length (k .b .now) ≡ n) × (length (k .out .now) ≡ n)
+lengths c =
+    let count = ok (given c) .counted in
+    let e = c .before .before .before in
+    (e .before .before .if1 .left ∙ count, e .before .if2 .left ∙ count, e .if3 .left ∙ count)
+
 pub sum-spec : {M : Type 1} → statement M
 sum-spec =
     tie.close
@@ -71,24 +87,17 @@ sum-spec =
     (ne-eqb _ _ (λ q. c .if3 .taken (q ∙ sym (ok (c .before .before .before .before) .counted))))))
     (λ c. short (c .before .before .before .before))
     (λ c. sym (length-take-le (length (c .before .before .before .before .before .before .before .before .before .before .before .before .args .support .now)) (replicate 20 (c .before .before .before .before .before .before .before .before .before .before .before .before .args .max-degree)) (short (c .before .before .before .before .before))))
-    (λ c κs.
-    let k = c .before .before .before .before .before .before .before .before .before .before .before .before .before .args in
-    let ds = cube (k .support .now) (k .max-degree) in
-    let n = ok (c .before .before .before .before .before .before) .counted ∙ ap cells
-    (sym (take-cube (k .support .now) (k .max-degree) (short (c .before .before .before .before .before .before)))) in
-    ((c .before .before .before .before .if1 .left ∙ n, c .before .before .before .if2 .left ∙ n, c .before .before .if3 .left ∙ n), width-high (k .bitwidth) (passes tableLimit false (k .total) (widthFits (k .bitwidth)) (k .support .now) ds (ok (c .before .before .before .before .before .before) .passes) .width)))
+    (λ c κs. search needs)
     (λ c. let k = c .before .before .before .before .before .before .before .before .args in sum-turned (k .bitwidth) (k .a .now) (k .b .now)
     (k .out .now) (turned (c .before)))
     (λ c. search needs)
     (λ c.
-    let k = c .before .before .before .before .before .before .before .before .before .before .before .before .before .before .before .before .args in
-    sum-accepted (k .bitwidth) (k .a .now) (k .b .now) (k .out .now)
-    (ok (c .before .before .before .before .before .before .before .before .before))
-    (ap₂ _&&_ (ap₂ _&&_ (eq-eqb _ _ (c .before .before .before .before .before .before .before .if1 .left ∙ ok
-    (c .before .before .before .before .before .before .before .before .before) .counted))
-    (eq-eqb _ _ (c .before .before .before .before .before .before .if2 .left ∙ ok
-    (c .before .before .before .before .before .before .before .before .before) .counted)))
-    (eq-eqb _ _ (c .before .before .before .before .before .if3 .left ∙ ok
-    (c .before .before .before .before .before .before .before .before .before) .counted)))
-    (c .before .before .box-sum .ensures ∙ ap (λ (l : List ℕ). boxTotal (bound (k .bitwidth)) l (k .a .now) (k .b .now))
-    (take-cube (k .support .now) (k .max-degree) (short (c .before .before .before .before .before .before .before .before .before))))))
+    let n = c .before .before in
+    let p = given n in
+    let k = lent p .args in
+    let ds = cube (k .support .now) (k .max-degree) in
+    let e = lengths n in
+    sum-accepted (k .bitwidth) (k .a .now) (k .b .now) (k .out .now) (ok p) (ap₂ _&&_ (ap₂ _&&_ (eq-eqb _ _ (e .0)) (eq-eqb _ _ (e .1))) (eq-eqb _ _ (e .2)))
+    (sum-held ds (k .bitwidth) (settings-cells-le tableLimit false (k .total) (widthFits (k .bitwidth)) (k .support .now) ds (ok p .passes))
+    (width-high (k .bitwidth) (passes tableLimit false (k .total) (widthFits (k .bitwidth)) (k .support .now) ds (ok p .passes) .width)) (k .a .now) (k .b .now)
+    (k .out .now) _ (e .0) (e .1) (e .2) (rw (take-cube (k .support .now) (k .max-degree) (short p)) at (n .sum .ensures)))))

@@ -1,0 +1,6 @@
+-- The masks of a row (Rows), tables of a row by one variable after the other (Layouts), the test against the bounds (Bounds), the calls on tables of the
+-- right lengths (Held).
+pub mod Rows
+pub mod Layouts
+pub mod Bounds
+pub mod Held
