@@ -11,11 +11,11 @@ use borrow.Author.Needs.{needs}
 use Rattle.two_adic_solver.proofs.fixed_elimination.eliminate.Tie as tie
 
 abbrev Inv-loop : tie.InvT-loop
-Inv-loop matrix₀ right₀ used₀ pivots₀ bitwidth column₀ matrix right used pivots column =
-    Square matrix × Passed bitwidth 4 (joined matrix₀) right₀ used₀ pivots₀ (joined matrix) right used pivots column
+Inv-loop matrix₀ right₀ used₀ answer₀ bitwidth column₀ matrix right used answer column =
+    Square matrix × Passed bitwidth 4 (joined matrix₀) right₀ used₀ answer₀ (joined matrix) right used answer column
 
 abbrev μ-loop : tie.MeasureT-loop
-μ-loop matrix₀ right₀ used₀ pivots₀ bitwidth column₀ matrix right used pivots column = 4 - column
+μ-loop matrix₀ right₀ used₀ answer₀ bitwidth column₀ matrix right used answer column = 4 - column
 
 pub eliminate-spec : {M : Type 1} → statement M
 eliminate-spec =
@@ -34,7 +34,7 @@ eliminate-spec =
     let i = b .loop .inv in
     let k = c .before .before .before .before .before .before .eliminate-column in (
       k .ensures .0,
-      passed-step _ _ _ _ _ _ (joined (b .loop .matrix)) (b .loop .right) (b .loop .used) (b .loop .pivots)
+      passed-step _ _ _ _ _ _ (joined (b .loop .matrix)) (b .loop .right) (b .loop .used) (b .loop .answer)
           (joined (k .last .0)) (k .last .1 .0) (k .last .1 .1 .0) (k .last .1 .1 .1 .0) (b .loop .column) (i .1)
           (c .before .before .before .before .before .before .before .before .before .before .before .loop-test .taken)
           (joined-length (k .ensures .0) ∙ sym (joined-length (i .0))) (omega arith) (omega arith) (omega arith) (k .ensures .1),
@@ -44,6 +44,6 @@ eliminate-spec =
     let b = c .before in
     let i = b .loop .inv in (
       i .0,
-      passed-done _ _ _ _ _ _ (joined (b .loop .matrix)) (b .loop .right) (b .loop .used) (b .loop .pivots) (b .loop .column) (i .1)
+      passed-done _ _ _ _ _ _ (joined (b .loop .matrix)) (b .loop .right) (b .loop .used) (b .loop .answer) (b .loop .column) (i .1)
           (c .loop-test .left),
     )))
