@@ -72,15 +72,8 @@
  * The calls use the stack and nothing else: no heap, no global state, no file. COBRA_CALL_STACK
  * bytes of the caller's stack are enough for every call here but two. The bare solver,
  * cobra_solve_2adic, and the fit, cobra_recover_weighted_poly, take room for the marks of their
- * rows and columns, in three sizes:
- *
- *            bare solver                        fit
- *   SMALL    to 64 rows and 64 columns          to 64 rows
- *   MIDDLE   to 4,096 rows and 1,024 columns    to 4,096 rows
- *   LARGE    all others                         all others
- *
- * COBRA_SOLVER_STACK_SMALL, .. and COBRA_WEIGHTED_STACK_SMALL, .. bytes are enough. LARGE is above
- * a megabyte, which is more than a thread has on some systems.
+ * rows, in two sizes: COBRA_SOLVER_STACK_SMALL and COBRA_WEIGHTED_STACK_SMALL bytes are enough to
+ * 256 rows, COBRA_SOLVER_STACK_LARGE and COBRA_WEIGHTED_STACK_LARGE for more.
  *
  * Any number of threads may call at once; each must have tables of its own to write to.
  */
@@ -103,11 +96,9 @@ extern "C" {
 /* bytes of stack that are enough for a call */
 #define COBRA_CALL_STACK 16384u
 #define COBRA_SOLVER_STACK_SMALL 4096u
-#define COBRA_SOLVER_STACK_MIDDLE 32768u
-#define COBRA_SOLVER_STACK_LARGE 1310720u
-#define COBRA_WEIGHTED_STACK_SMALL 65536u
-#define COBRA_WEIGHTED_STACK_MIDDLE 98304u
-#define COBRA_WEIGHTED_STACK_LARGE 1310720u
+#define COBRA_SOLVER_STACK_LARGE 98304u
+#define COBRA_WEIGHTED_STACK_SMALL 24576u
+#define COBRA_WEIGHTED_STACK_LARGE 131072u
 
 /* ---- recovery */
 

@@ -94,21 +94,16 @@ static void fitted(size_t k, uint8_t grid, uint8_t most, size_t rows, size_t col
 
 static void *small_systems(void *arg)
 {
-    solved(64, 64);
-    return arg;
-}
-
-static void *middle_systems(void *arg)
-{
-    solved(65, 65);
-    solved(64, 1024);
-    solved(4096, 16);
+    solved(4, 4);
+    solved(256, 256);
+    solved(1, 65536);
     return arg;
 }
 
 static void *large_systems(void *arg)
 {
-    solved(1, 65536);
+    solved(257, 255);
+    solved(4096, 16);
     solved(65536, 1);
     return arg;
 }
@@ -118,19 +113,15 @@ static void *small_fits(void *arg)
     fitted(1, 63, 63, 64, 64, 64);
     fitted(6, 1, 255, 64, 64, 64);
     fitted(20, 0, 255, 1, 1, 1);
-    return arg;
-}
-
-static void *middle_fits(void *arg)
-{
     fitted(1, 255, 255, 256, 256, 256);
     fitted(8, 1, 8, 256, 256, 256);
-    fitted(12, 1, 1, 4096, 13, 4096);
     return arg;
 }
 
 static void *large_fits(void *arg)
 {
+    fitted(2, 31, 9, 1024, 55, 100);
+    fitted(12, 1, 1, 4096, 13, 4096);
     fitted(16, 1, 0, 65536, 1, 1);
     fitted(2, 255, 0, 65536, 1, 1);
     return arg;
@@ -163,11 +154,9 @@ void part_stack(void)
         {"cobra_value", value, COBRA_VALUE_STACK},
         {"cobra_fit", fit, COBRA_FIT_STACK},
         {"calls on u64 tables", boxes, COBRA_CALL_STACK},
-        {"solver to 64 rows and columns", small_systems, COBRA_SOLVER_STACK_SMALL},
-        {"solver to 4,096 rows, 1,024 columns", middle_systems, COBRA_SOLVER_STACK_MIDDLE},
-        {"solver of larger systems", large_systems, COBRA_SOLVER_STACK_LARGE},
-        {"fit to 64 rows", small_fits, COBRA_WEIGHTED_STACK_SMALL},
-        {"fit to 4,096 rows", middle_fits, COBRA_WEIGHTED_STACK_MIDDLE},
+        {"solver to 256 rows", small_systems, COBRA_SOLVER_STACK_SMALL},
+        {"solver of more rows", large_systems, COBRA_SOLVER_STACK_LARGE},
+        {"fit to 256 rows", small_fits, COBRA_WEIGHTED_STACK_SMALL},
         {"fit of more rows", large_fits, COBRA_WEIGHTED_STACK_LARGE},
     };
     size_t i, j, base = touched(nothing);

@@ -119,6 +119,12 @@ module _ (w rows cols c : ℕ) (mat : List ℕ) (used : List Bool) (p : ℕ) (e 
           rows-eq = noted lv;
         })
 
+-- of the notes only those of the columns that are done are read
+pub shown-noted : (w rows cols : ℕ) (s : State) (c : ℕ) (mat rhs : List ℕ) (used : List Bool) (piv piv′ : List ℕ)
+    → ((j : ℕ) → j < c → at piv′ j ≡ at piv j) → Shown w rows cols s c mat rhs used piv → Shown w rows cols s c mat rhs used piv′
+shown-noted w rows cols s c mat rhs used piv piv′ e h =
+    record { shows = h .shows; echelon = h .echelon; marked = h .marked; rows-eq = λ j l. e j l ∙ h .rows-eq j l }
+
 -- ---- all columns
 
 -- the first c columns eliminated, whatever state the tables showed

@@ -4,7 +4,7 @@ use mathlib.Core.Bool.{Bool, true, false, cond, _&&_}
 use mathlib.Core.List.{List, _++_}
 use mathlib.Core.Logic.{⊎-elim, _⊎_, inl, inr}
 use Prim.Native.Nat.{ℕ, zero, suc, _+_, _*_, _-_, _%_, _^_, _≤_, _<_, min, zero-le}
-use native.Mathlib.Nat.{zero-add, suc-add, not-suc-le-zero, le-refl, ne-of-lt, ne-of-gt, eq-or-lt-of-le, le-of-suc-le-suc, le-of-lt, le-antisymm, min-eq-left, min-eq-right}
+use native.Mathlib.Nat.{zero-add, suc-add, not-suc-le-zero, le-refl, le-trans, ne-of-lt, ne-of-gt, eq-or-lt-of-le, le-of-suc-le-suc, le-of-lt, le-antisymm, min-eq-left, min-eq-right}
 use native.Mathlib.Numerals.{add-one}
 use native.Mathlib.Omega.{arith}
 use lib.Bits.{bitAnd}
@@ -29,7 +29,7 @@ use lib.Seq.{getD-set-same, getD-set-other, length-take-le}
 use Rattle.meaning.specs.Tables.{at, tabulate}
 use Rattle.meaning.specs.Differences.{minus}
 use Rattle.meaning.specs.Elimination.{Lowest, lowest}
-use Rattle.theory.specs.Congruence.{cong-of-eq, mod-cong}
+use Rattle.theory.specs.Congruence.{cong-of-eq, mod-cong, cong-mul}
 use Rattle.theory.specs.Words.{minus-masked, cong-of-pow}
 use Rattle.theory.specs.Congruence.{minus-cong}
 use Rattle.theory.specs.Tables.{length-tabulate, at-tabulate}
@@ -181,6 +181,16 @@ less-masked a b w mask h e =
     ∙ minus-masked a (b % 2 ^ 64) w
     ∙ ap (λ (k : ℕ). minus (2 ^ k) a (b % 2 ^ 64)) m
     ∙ minus-cong (pow-pos w) (cong-of-eq (2 ^ w) refl) (cong-of-pow h (mod-cong (2 ^ 64) b))
+
+-- to 32 bits the low halves of both factors have the product
+pub less-low : (a q b w mask : ℕ) → w ≤ 32 → mask ≡ 2 ^ w - 1
+    → bitAnd (minus (2 ^ 64) a (q % 4294967296 * (b % 4294967296))) mask ≡ minus (2 ^ w) a (q * b)
+less-low a q b w mask h e =
+    let m : min w 64 ≡ w = min-eq-left (le-trans h (omega arith)) in
+    ap (bitAnd (minus (2 ^ 64) a (q % 4294967296 * (b % 4294967296)))) (e ∙ ap (λ (k : ℕ). 2 ^ k - 1) (sym m))
+    ∙ minus-masked a (q % 4294967296 * (b % 4294967296)) w
+    ∙ ap (λ (k : ℕ). minus (2 ^ k) a (q % 4294967296 * (b % 4294967296))) m
+    ∙ minus-cong (pow-pos w) (cong-of-eq (2 ^ w) refl) (cong-of-pow h (cong-mul (mod-cong (2 ^ 32) q) (mod-cong (2 ^ 32) b)))
 
 -- ---- a row less a multiple of another
 

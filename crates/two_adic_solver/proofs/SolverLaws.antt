@@ -3,7 +3,7 @@ use mathlib.Core.Path.{_≡_, refl, sym, ap, ap₂, subst, _∙_}
 use mathlib.Core.Bool.{Bool, true, false, _&&_, _||_, cond}
 use mathlib.Core.List.{List}
 use Prim.Native.Nat.{ℕ, zero, suc, _*_, _+_, _/_, _%_, _^_, _≤_, _<_}
-use native.Mathlib.Nat.{not-suc-le-zero, lt-irrefl, mul-suc}
+use native.Mathlib.Nat.{not-suc-le-zero, mul-suc}
 use native.Mathlib.Omega.{arith}
 use lib.Dec.{T, ltb, eqb}
 use lib.ListN.{length, getD, replicate}
@@ -182,12 +182,6 @@ pub unmarked : (n i : ℕ) → getD (replicate n false) i false ≡ false
 unmarked zero i = refl
 unmarked (suc n) zero = refl
 unmarked (suc n) (suc i) = unmarked n i
-
--- a system of at most n rows and k columns is not one that has more columns
-pub less-room : {A : Type 0} (rows n x k cols : ℕ) → rows ≤ n → x ≤ k → x ≡ cols → (rows ≤ n → k < cols) → A
-less-room rows n x k cols l m e f =
-    let more : k < cols = f l in
-    absurd (lt-irrefl k (omega arith))
 
 -- ---- the causes in their order
 

@@ -1,34 +1,33 @@
 -- Back-substitution on tables: tests of all rows and columns, a column's rest and value, and the columns one after the other, last first.
 use mathlib.Core.Path.{_≡_, refl, sym, ap, ap₂, subst, _∙_}
-use mathlib.Core.Bool.{Bool, true, false, cond}
+use mathlib.Core.Bool.{Bool, true, false}
 use mathlib.Core.List.{List}
 use mathlib.Core.Logic.{⊎-elim, _⊎_}
-use Prim.Native.Nat.{ℕ, suc, _+_, _*_, _-_, _/_, _%_, _^_, _≤_, _<_, min}
-use native.Mathlib.Nat.{min-eq-left, suc-mul, mul-le-mul-right, le-refl, le-of-suc-le-suc, eq-or-lt-of-le}
+use Prim.Native.Nat.{ℕ, suc, _+_, _*_, _-_, _/_, _%_, _^_, _≤_, _<_, min, zero-le}
+use native.Mathlib.Nat.{min-eq-left, suc-mul, mul-le-mul-right, le-refl, le-trans, le-of-eq, le-of-suc-le-suc, eq-or-lt-of-le, ne-of-gt}
 use native.Mathlib.Numerals.{add-one}
 use native.Mathlib.Omega.{arith}
 use lib.Dec.{T, eqb}
 use lib.Pow.{pow-pos}
-use lib.ListN.{length, set}
+use lib.ListN.{length, set, List·getD-eq-default}
 use lib.Seq.{getD-set-same, getD-set-other}
 use borrow.Author.Tests.{eq-eqb, ne-eqb}
-use Rattle.meaning.specs.Tables.{at, tabulate}
+use Rattle.meaning.specs.Tables.{at}
 use Rattle.meaning.specs.Factorials.{twosIn}
 use Rattle.meaning.specs.Inverses.{inverse}
 use Rattle.meaning.specs.Sums.{sum}
 use Rattle.meaning.specs.Differences.{minus}
 use Rattle.meaning.specs.Recovery.{every}
-use Rattle.meaning.specs.Elimination.{State, quotient, pivotEntry, rest, dividesRest, unknown, backward, substituted}
+use Rattle.meaning.specs.Elimination.{State, quotient, pivotEntry, rest, dividesRest, unknown, substituted}
 use Rattle.theory.specs.Congruence.{cong-add, mod-cong, cong-of-eq, minus-cong}
 use Rattle.theory.specs.Words.{cong-of-pow}
 use Rattle.theory.specs.Sums.{sum-last, sum-eq}
 use Rattle.theory.specs.Every.{every-iff}
-use Rattle.theory.specs.Tables.{length-tabulate, at-tabulate-zero}
-use Rattle.theory.specs.BackSubstitution.{put, backward-eq, backward-step, dividesRest-eq, dividesRest-backward}
+use Rattle.theory.specs.BackSubstitution.{unknown-eq, dividesRest-eq, backward-keeps, substituted-unknown}
 use Rattle.theory.specs.Parts.{part, length-part, at-part}
 use Rattle.two_adic_solver.specs.ShownStates.{Shows}
 use Rattle.two_adic_solver.specs.Solved.{restOf, Solved, Substituted}
-use Rattle.two_adic_solver.proofs.ClearLaws.{decEq, quotient-told}
+use Rattle.two_adic_solver.proofs.ClearLaws.{quotient-told}
 
 -- ---- tests
 
@@ -155,38 +154,40 @@ module _ (w rows cols : ℕ) (s : State) (mat rhs : List ℕ) (h : Shows rows co
 
 -- ---- the columns, last first
 
+-- the columns from c on have their values, and divide
 pub record Values (w cols : ℕ) (s : State) (x : List ℕ) (c : ℕ) : Type 0 where
-  pub agree : (j : ℕ) → backward w cols s c (at x) j ≡ substituted w cols s j
+  pub agree : (j : ℕ) → c ≤ j → at x j ≡ substituted w cols s j
   pub passed : (j : ℕ) → c ≤ j → j < cols → dividesRest w cols s (substituted w cols s) j ≡ true
 
-pub record Substituting (w cols : ℕ) (piv mat rhs x : List ℕ) (c : ℕ) : Type 0 where
+-- the columns before c still have their pivot rows, those of x₀
+pub record Substituting (w cols : ℕ) (x₀ mat rhs x : List ℕ) (c : ℕ) : Type 0 where
   pub same : length x ≡ cols
   pub within : c ≤ cols
-  pub so-far : (s : State) → Shows (length rhs) cols s mat rhs → ((j : ℕ) → j < cols → at piv j ≡ s .pivot j) → Values w cols s x c
+  pub kept : (j : ℕ) → j < c → at x j ≡ at x₀ j
+  pub so-far : (s : State) → Shows (length rhs) cols s mat rhs → ((j : ℕ) → j < cols → at x₀ j ≡ s .pivot j) → Values w cols s x c
 
 module _ (w cols : ℕ) (s : State) where
-  values-start : (x : List ℕ) (n : ℕ) → x ≡ tabulate n (λ k. 0) → Values w cols s x cols
+  -- behind the last column there are zeros
+  values-start : (x : List ℕ) → length x ≡ cols → Values w cols s x cols
   unfolding substituted
-  values-start x n e =
+  values-start x e =
       record {
-        agree = λ j. backward-eq w cols s cols (at x) (λ k. 0) (λ k. ap (λ (y : List ℕ). at y k) e ∙ at-tabulate-zero n k) j;
+        agree = λ j l. List·getD-eq-default x 0 (le-trans (le-of-eq e) l) ∙ sym (backward-keeps w cols s cols (λ k. 0) j l);
         passed = λ j l k. absurd (omega arith);
       }
 
   -- whether a column divides is known when its turn comes
   turn : (x : List ℕ) (d : ℕ) → Values w cols s x (suc d) → dividesRest w cols s (substituted w cols s) d ≡ dividesRest w cols s (at x) d
-  turn x d v =
-      dividesRest-eq w cols s (substituted w cols s) (backward w cols s (suc d) (at x)) d (λ j l. sym (v .agree j))
-      ∙ dividesRest-backward w cols s d (at x)
+  turn x d v = dividesRest-eq w cols s (substituted w cols s) (at x) d (λ j l. sym (v .agree j l))
 
   values-step : (x x′ : List ℕ) (d : ℕ) → d < length x → d < cols → Values w cols s x (suc d) → Solved w cols s d x x′ true → Values w cols s x′ d
   values-step x x′ d lx ld v r =
       record {
         agree =
-            λ j.
-            backward-eq w cols s d (at x′) (put w cols s d (unknown w cols s (at x) d) (at x)) entry j
-            ∙ sym (backward-step w cols s d (at x) j)
-            ∙ v .agree j;
+            λ j l.
+            ap (λ (y : List ℕ). at y j) (r .value refl)
+            ∙ ⊎-elim (λ (e : d ≡ j). subst (λ (k : ℕ). at (set x d u) k ≡ substituted w cols s k) e here)
+            (λ (e : d < j). getD-set-other x d j u 0 (ne-of-gt e) ∙ v .agree j e) (eq-or-lt-of-le l);
         passed =
             λ j l k.
             ⊎-elim (λ (e : d ≡ j). ap (dividesRest w cols s (substituted w cols s)) (sym e) ∙ turn x d v ∙ sym (r .divides))
@@ -196,12 +197,11 @@ module _ (w cols : ℕ) (s : State) where
       u : ℕ
       u = unknown w cols s (at x) d
 
-      entry : (k : ℕ) → at x′ k ≡ cond (eqb k d) u (at x k)
-      entry k = ap (λ (y : List ℕ). at y k) (r .value refl) ∙ go (decEq k d)
-        where
-          go : Dec (k ≡ d) → at (set x d u) k ≡ cond (eqb k d) u (at x k)
-          go (yes e) = ap (at (set x d u)) e ∙ getD-set-same x d u 0 lx ∙ sym (ap (λ (b : Bool). cond b u (at x k)) (eq-eqb k d e))
-          go (no e) = getD-set-other x d k u 0 e ∙ sym (ap (λ (b : Bool). cond b u (at x k)) (ne-eqb k d e))
+      here : at (set x d u) d ≡ substituted w cols s d
+      here =
+          getD-set-same x d u 0 lx
+          ∙ unknown-eq w cols s (at x) (substituted w cols s) d (λ j l. v .agree j l)
+          ∙ sym (substituted-unknown w cols s d ld)
 
   values-fail : (x x′ : List ℕ) (d : ℕ) → d < cols → Values w cols s x (suc d) → Solved w cols s d x x′ false → Substituted w cols s x′ false
   values-fail x x′ d ld v r =
@@ -211,43 +211,59 @@ module _ (w cols : ℕ) (s : State) where
       }
 
   values-done : (x : List ℕ) → Values w cols s x 0 → Substituted w cols s x true
-  unfolding backward
   values-done x v =
       record {
-        divide = sym (every-all cols _ (λ j l. v .passed j (omega arith) l));
-        values = λ f j l. v .agree j;
+        divide = sym (every-all cols _ (λ j l. v .passed j zero-le l));
+        values = λ f j l. v .agree j zero-le;
       }
 
-module _ (w cols : ℕ) (piv mat rhs : List ℕ) where
-  pub substituting-start : (x : List ℕ) (n : ℕ) → x ≡ tabulate n (λ k. 0) → n ≡ cols → Substituting w cols piv mat rhs x cols
-  substituting-start x n e f =
-      record { same = ap length e ∙ length-tabulate n _ ∙ f; within = le-refl cols; so-far = λ s h k. values-start w cols s x n e }
+module _ (w cols : ℕ) (x₀ mat rhs : List ℕ) where
+  pub substituting-start : length x₀ ≡ cols → Substituting w cols x₀ mat rhs x₀ cols
+  substituting-start e = record { same = e; within = le-refl cols; kept = λ j l. refl; so-far = λ s h k. values-start w cols s x₀ e }
 
-  module _ (x x′ : List ℕ) (c : ℕ) (pos : 0 < c) (r : Substituting w cols piv mat rhs x c) where
+  module _ (x x′ : List ℕ) (c : ℕ) (pos : 0 < c) (r : Substituting w cols x₀ mat rhs x c) where
     whole : c ≡ suc (c - 1)
     whole = omega arith
 
-    pub substituting-step : length x′ ≡ length x
-        → ((s : State) → Shows (length rhs) cols s mat rhs → s .pivot (c - 1) ≡ at piv (c - 1) → Solved w cols s (c - 1) x x′ true)
-        → Substituting w cols piv mat rhs x′ (c - 1)
-    substituting-step e f =
+    -- the next column, and its pivot row
+    pub next-lt : c - 1 < cols
+    next-lt = omega (arith, r .within)
+
+    next-pivot : at x (c - 1) ≡ at x₀ (c - 1)
+    next-pivot = r .kept (c - 1) (omega arith)
+
+    -- what holds of all pivot rows holds of it
+    pub next-low : ((j : ℕ) → j < cols → (at x₀ j < length rhs) × (twosIn w (at mat (at x₀ j * cols + j)) < w))
+        → (at x (c - 1) < length rhs) × (twosIn w (at mat (at x (c - 1) * cols + (c - 1))) < w)
+    next-low f =
+        subst (λ (p : ℕ). (p < length rhs) × (twosIn w (at mat (p * cols + (c - 1))) < w)) (sym next-pivot) (f (c - 1) next-lt)
+
+    abbrev Turn : Bool → Type 0
+    Turn b = (s : State) → Shows (length rhs) cols s mat rhs → s .pivot (c - 1) ≡ at x (c - 1) → Solved w cols s (c - 1) x x′ b
+
+    turned : (b : Bool) → Turn b → (s : State) → Shows (length rhs) cols s mat rhs → ((j : ℕ) → j < cols → at x₀ j ≡ s .pivot j)
+        → Solved w cols s (c - 1) x x′ b
+    turned b f s h k = f s h (sym (next-pivot ∙ k (c - 1) next-lt))
+
+    pub substituting-step : length x′ ≡ length x → ((j : ℕ) → j < c - 1 → at x′ j ≡ at x j) → Turn true → Substituting w cols x₀ mat rhs x′ (c - 1)
+    substituting-step e f t =
         record {
           same = e ∙ r .same;
           within = omega (arith, r .within);
+          kept = λ j l. f j l ∙ r .kept j (omega arith);
           so-far =
               λ s h k.
-              values-step w cols s x x′ (c - 1) (omega (arith, r .same, r .within)) (omega (arith, r .within))
-              (subst (Values w cols s x) whole (r .so-far s h k)) (f s h (sym (k (c - 1) (omega (arith, r .within)))));
+              values-step w cols s x x′ (c - 1) (omega (arith, r .same, r .within)) next-lt (subst (Values w cols s x) whole (r .so-far s h k))
+              (turned true t s h k);
         }
 
-    pub substituting-fails : ((s : State) → Shows (length rhs) cols s mat rhs → s .pivot (c - 1) ≡ at piv (c - 1) → Solved w cols s (c - 1) x x′ false)
-        → (s : State) → Shows (length rhs) cols s mat rhs → ((j : ℕ) → j < cols → at piv j ≡ s .pivot j) → Substituted w cols s x′ false
-    substituting-fails f s h k =
-        values-fail w cols s x x′ (c - 1) (omega (arith, r .within)) (subst (Values w cols s x) whole (r .so-far s h k))
-        (f s h (sym (k (c - 1) (omega (arith, r .within)))))
+    pub substituting-fails : Turn false
+        → (s : State) → Shows (length rhs) cols s mat rhs → ((j : ℕ) → j < cols → at x₀ j ≡ s .pivot j) → Substituted w cols s x′ false
+    substituting-fails t s h k =
+        values-fail w cols s x x′ (c - 1) next-lt (subst (Values w cols s x) whole (r .so-far s h k)) (turned false t s h k)
 
-  pub substituting-done : (x : List ℕ) (c : ℕ) → Substituting w cols piv mat rhs x c → c ≤ 0
-      → (s : State) → Shows (length rhs) cols s mat rhs → ((j : ℕ) → j < cols → at piv j ≡ s .pivot j) → Substituted w cols s x true
+  pub substituting-done : (x : List ℕ) (c : ℕ) → Substituting w cols x₀ mat rhs x c → c ≤ 0
+      → (s : State) → Shows (length rhs) cols s mat rhs → ((j : ℕ) → j < cols → at x₀ j ≡ s .pivot j) → Substituted w cols s x true
   substituting-done x c r z s h k =
       let e : c ≡ 0 = omega arith in
       values-done w cols s x (subst (Values w cols s x) e (r .so-far s h k))

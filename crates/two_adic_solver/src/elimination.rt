@@ -1,7 +1,7 @@
 // The elimination on a matrix and a right side: rows cleared by a pivot row, column after column.
 ghost use mathlib.Core.Path.{_≡_};
 ghost use mathlib.Core.Bool.{true, false};
-ghost use Prim.Native.Nat.{ℕ, _+_, _*_, _^_, _≤_, _<_};
+ghost use Prim.Native.Nat.{ℕ, _+_, _*_, _-_, _^_, _≤_, _<_};
 ghost use lib.ListN.{length};
 ghost use Rattle.meaning.specs.Tables.{at};
 ghost use Rattle.meaning.specs.Factorials.{twosIn};
@@ -50,7 +50,7 @@ fn clear_row(
 }
 
 // Clears a column: its pivot row, which is marked as used, is subtracted from the rows that are not, up to its last entry that is not 0. That part of it
-// is copied to `room` first.
+// is copied to `room` first, which has a place for each column that is left.
 fn clear_column(
     matrix: &mut [u64],
     right: &mut [u64],
@@ -63,7 +63,7 @@ fn clear_column(
 )
     requires { ⌜ (length (now matrix) ≡ length (now right) * columns) × (length (now matrix) ≤ 65536) × (column < columns) × (pivot < length (now right)) ⌝ }
     requires { ⌜ (length (now right) ≤ length (now used)) × (twosIn bitwidth (at (now matrix) (pivot * columns + column)) < bitwidth) × (bitwidth ≤ 64)
-        × (columns ≤ length (now room)) ⌝ }
+        × (columns - column ≤ length (now room)) ⌝ }
     ensures { λ r. ⌜ ((s : State) → Shows (length (now (right .entry))) columns s (now (matrix .entry)) (now (right .entry))
         → Clearing bitwidth (length (now (right .entry))) column pivot (now (used .entry)) s
         → Shows (length (now (right .entry))) columns (step bitwidth (length (now (right .entry))) s column) (now (matrix .exit)) (now (right .exit))) ⌝ }
@@ -93,54 +93,62 @@ fn clear_column(
     }
 }
 
-// One column: its pivot row is found and noted, marked as used, and subtracted from the rows that are not used. Without a pivot the number of rows is
-// noted.
+// One column: its pivot row is found, marked as used, and subtracted from the rows that are not used; then it is noted in `answer`, which has room for its
+// copy from that column on. Without a pivot the number of rows is noted.
 fn eliminate_column(
     matrix: &mut [u64],
     right: &mut [u64],
     used: &mut [bool],
-    pivots: &mut [usize],
-    room: &mut [u64],
+    answer: &mut [u64],
     columns: usize,
     column: usize,
     bitwidth: u32,
 )
     requires { ⌜ (length (now matrix) ≡ length (now right) * columns) × (length (now matrix) ≤ 65536) × (column < columns) × (columns ≤ 65536) ⌝ }
-    requires { ⌜ (length (now right) ≤ length (now used)) × (columns ≤ length (now pivots)) × (bitwidth ≤ 64) × (columns ≤ length (now room)) ⌝ }
+    requires { ⌜ (length (now right) ≤ length (now used)) × (bitwidth ≤ 64) × (length (now answer) ≡ columns) ⌝ }
     ensures { λ r. ⌜ ((s : State)
-        → Shown bitwidth (length (now (right .entry))) columns s column (now (matrix .entry)) (now (right .entry)) (now (used .entry)) (now (pivots .entry))
+        → Shown bitwidth (length (now (right .entry))) columns s column (now (matrix .entry)) (now (right .entry)) (now (used .entry)) (now (answer .entry))
         → Shown bitwidth (length (now (right .entry))) columns (step bitwidth (length (now (right .entry))) s column) (column + 1)
-        (now (matrix .exit)) (now (right .exit)) (now (used .exit)) (now (pivots .exit))) ⌝ }
+        (now (matrix .exit)) (now (right .exit)) (now (used .exit)) (now (answer .exit))) ⌝ }
 {
     let pivot = rows::find_pivot(matrix, used, right.len(), columns, column, bitwidth);
-    pivots[column] = pivot;
     if pivot == right.len() {
+        answer[column] = pivot as u64;
         return;
     }
     used[pivot] = true;
-    clear_column(matrix, right, used, room, columns, column, pivot, bitwidth);
+    clear_column(
+        matrix,
+        right,
+        used,
+        &mut answer[column..columns],
+        columns,
+        column,
+        pivot,
+        bitwidth,
+    );
+    answer[column] = pivot as u64;
 }
 
-// All columns, one after the other.
+// All columns, one after the other; `answer` ends with their pivot rows.
 pub(crate) fn eliminate(
     matrix: &mut [u64],
     right: &mut [u64],
     used: &mut [bool],
-    pivots: &mut [usize],
-    room: &mut [u64],
+    answer: &mut [u64],
     columns: usize,
     bitwidth: u32,
 )
     requires { ⌜ (length (now matrix) ≡ length (now right) * columns) × (length (now matrix) ≤ 65536) × (columns ≤ 65536) ⌝ }
-    requires { ⌜ (length (now right) ≤ length (now used)) × (columns ≤ length (now pivots)) × (bitwidth ≤ 64) × (columns ≤ length (now room)) ⌝ }
+    requires { ⌜ (length (now right) ≤ length (now used)) × (bitwidth ≤ 64) × (length (now answer) ≡ columns) ⌝ }
     ensures { λ r. ⌜ ((s : State)
-        → Shown bitwidth (length (now (right .entry))) columns s 0 (now (matrix .entry)) (now (right .entry)) (now (used .entry)) (now (pivots .entry))
+        → Shown bitwidth (length (now (right .entry))) columns s 0 (now (matrix .entry)) (now (right .entry)) (now (used .entry)) (now (answer .entry))
         → Shown bitwidth (length (now (right .entry))) columns (forward bitwidth (length (now (right .entry))) s columns) columns
-        (now (matrix .exit)) (now (right .exit)) (now (used .exit)) (now (pivots .exit))) ⌝ }
+        (now (matrix .exit)) (now (right .exit)) (now (used .exit)) (now (answer .exit))) ⌝ }
 {
     let mut column = 0;
     while column < columns {
-        eliminate_column(matrix, right, used, pivots, room, columns, column, bitwidth);
+        eliminate_column(matrix, right, used, answer, columns, column, bitwidth);
         column += 1;
     }
 }

@@ -22,47 +22,46 @@ pub struct Fixed {
     pub answer: [u64; 4],
 }
 
-// Reduces matrix and right side modulo 2^bitwidth and eliminates. No row is marked before.
+// Reduces matrix and right side modulo 2^bitwidth and eliminates; `answer` ends with the pivot rows. No row is marked before.
 fn eliminate_rows(
     matrix: &mut [[u64; 4]; 4],
     right: &mut [u64],
     used: &mut [bool],
-    pivots: &mut [usize],
+    answer: &mut [u64],
     bitwidth: u32,
 )
-    requires { ⌜ Square (now matrix) × (length (now right) ≡ 4) × (length (now used) ≡ 4) × (length (now pivots) ≡ 4) × (bitwidth ≤ 64) ⌝ }
+    requires { ⌜ Square (now matrix) × (length (now right) ≡ 4) × (length (now used) ≡ 4) × (length (now answer) ≡ 4) × (bitwidth ≤ 64) ⌝ }
     ensures { λ r. ⌜ Square (now (matrix .exit)) × (((i : ℕ) → i < length (now (right .entry)) → getD (now (used .entry)) i false ≡ false)
         → Shown bitwidth (length (now (right .entry))) 4
         (eliminated bitwidth (length (now (right .entry))) 4 (system bitwidth 4 (joined (now (matrix .entry))) (now (right .entry)))) 4
-        (joined (now (matrix .exit))) (now (right .exit)) (now (used .exit)) (now (pivots .exit))) ⌝ }
+        (joined (now (matrix .exit))) (now (right .exit)) (now (used .exit)) (now (answer .exit))) ⌝ }
 {
     fixed_elimination::reduce(matrix, bitwidth);
     rows::reduce(right, bitwidth);
-    fixed_elimination::eliminate(matrix, right, used, pivots, bitwidth);
+    fixed_elimination::eliminate(matrix, right, used, answer, bitwidth);
 }
 
-// The tests after the elimination, and back-substitution into the answer.
+// The tests after the elimination, and back-substitution: `answer` has the pivot rows at first, and the values at last.
 fn conclude(
     matrix: &[[u64; 4]; 4],
     right: &[u64],
     used: &[bool],
-    pivots: &[usize],
     answer: &mut [u64],
     bitwidth: u32,
 ) -> bool
-    requires { ⌜ Square (now matrix) × (length (now right) ≡ 4) × (length (now used) ≡ 4) × (length (now pivots) ≡ 4) × (length (now answer) ≡ 4) ⌝ }
-    requires { ⌜ (bitwidth ≤ 64) × Ended bitwidth (length (now right)) 4 (joined (now matrix)) (now right) (now used) (now pivots) ⌝ }
+    requires { ⌜ Square (now matrix) × (length (now right) ≡ 4) × (length (now used) ≡ 4) × (length (now answer) ≡ 4) ⌝ }
+    requires { ⌜ (bitwidth ≤ 64) × Ended bitwidth (length (now right)) 4 (joined (now matrix)) (now right) (now used) (now answer) ⌝ }
     ensures { λ r. ⌜ ((s : State)
-        → Shown bitwidth (length (now (right .entry))) 4 s 4 (joined (now (matrix .entry))) (now (right .entry)) (now (used .entry)) (now (pivots .entry))
+        → Shown bitwidth (length (now (right .entry))) 4 s 4 (joined (now (matrix .entry))) (now (right .entry)) (now (used .entry)) (now (answer .entry))
         → Concluded bitwidth (length (now (right .entry))) 4 s (now (answer .exit)) r) ⌝ }
 {
-    if !substitution::pivots_found(pivots, 4, right.len()) {
+    if !substitution::pivots_found(answer, 4, right.len()) {
         return false;
     }
     if !substitution::rights_vanish(right, used) {
         return false;
     }
-    fixed_substitution::substitute(matrix, right, pivots, answer, bitwidth)
+    fixed_substitution::substitute(matrix, right, answer, bitwidth)
 }
 
 // Eliminates in the matrix and the right side, and puts the answer, or zeros, into `answer`. No row is marked before.
@@ -70,17 +69,16 @@ fn solve_with(
     matrix: &mut [[u64; 4]; 4],
     right: &mut [u64],
     used: &mut [bool],
-    pivots: &mut [usize],
     answer: &mut [u64],
     bitwidth: u32,
 ) -> Outcome
-    requires { ⌜ Square (now matrix) × (length (now right) ≡ 4) × (length (now used) ≡ 4) × (length (now pivots) ≡ 4) × (length (now answer) ≡ 4) ⌝ }
+    requires { ⌜ Square (now matrix) × (length (now right) ≡ 4) × (length (now used) ≡ 4) × (length (now answer) ≡ 4) ⌝ }
     requires { ⌜ (bitwidth ≤ 64) × ((i : ℕ) → i < length (now right) → getD (now used) i false ≡ false) ⌝ }
     ensures { λ r. ⌜ Finished bitwidth 4 (joined (now (matrix .entry))) (now (right .entry))
         (joined (now (matrix .exit))) (now (right .exit)) (now (answer .exit)) (saidNumber r) ⌝ }
 {
-    eliminate_rows(matrix, right, used, pivots, bitwidth);
-    if conclude(matrix, right, used, pivots, answer, bitwidth) {
+    eliminate_rows(matrix, right, used, answer, bitwidth);
+    if conclude(matrix, right, used, answer, bitwidth) {
         return Outcome::Accepted;
     }
     tables::clear(answer);
@@ -101,15 +99,7 @@ fn solve_checked(matrix: [[u64; 4]; 4], right: [u64; 4], bitwidth: u32) -> Fixed
     let mut entries = matrix;
     let mut rights = right;
     let mut used = [false; 4];
-    let mut pivots = [0; 4];
-    let outcome = solve_with(
-        &mut entries,
-        &mut rights,
-        &mut used,
-        &mut pivots,
-        &mut answer,
-        bitwidth,
-    );
+    let outcome = solve_with(&mut entries, &mut rights, &mut used, &mut answer, bitwidth);
     Fixed {
         outcome: outcome,
         answer: answer,

@@ -131,24 +131,24 @@ fn clear_column(
     }
 }
 
-// One column: its pivot row is found and noted, marked as used, and subtracted from the rows that are not used. Without a pivot 4 is noted.
+// One column: its pivot row is found and noted in `answer`, marked as used, and subtracted from the rows that are not used. Without a pivot 4 is noted.
 fn eliminate_column(
     matrix: &mut [[u64; 4]; 4],
     right: &mut [u64],
     used: &mut [bool],
-    pivots: &mut [usize],
+    answer: &mut [u64],
     column: usize,
     bitwidth: u32,
 )
-    requires { ⌜ Square (now matrix) × (length (now right) ≡ 4) × (length (now used) ≡ 4) × (length (now pivots) ≡ 4) ⌝ }
+    requires { ⌜ Square (now matrix) × (length (now right) ≡ 4) × (length (now used) ≡ 4) × (length (now answer) ≡ 4) ⌝ }
     requires { ⌜ (column < 4) × (bitwidth ≤ 64) ⌝ }
     ensures { λ r. ⌜ Square (now (matrix .exit)) × ((s : State)
-        → Shown bitwidth (length (now (right .entry))) 4 s column (joined (now (matrix .entry))) (now (right .entry)) (now (used .entry)) (now (pivots .entry))
+        → Shown bitwidth (length (now (right .entry))) 4 s column (joined (now (matrix .entry))) (now (right .entry)) (now (used .entry)) (now (answer .entry))
         → Shown bitwidth (length (now (right .entry))) 4 (step bitwidth (length (now (right .entry))) s column) (column + 1)
-        (joined (now (matrix .exit))) (now (right .exit)) (now (used .exit)) (now (pivots .exit))) ⌝ }
+        (joined (now (matrix .exit))) (now (right .exit)) (now (used .exit)) (now (answer .exit))) ⌝ }
 {
     let pivot = find_pivot(matrix, used, column, bitwidth);
-    pivots[column] = pivot;
+    answer[column] = pivot as u64;
     if pivot == 4 {
         return;
     }
@@ -156,23 +156,23 @@ fn eliminate_column(
     clear_column(matrix, right, used, column, pivot, bitwidth);
 }
 
-// All columns, one after the other.
+// All columns, one after the other; `answer` ends with their pivot rows.
 pub(crate) fn eliminate(
     matrix: &mut [[u64; 4]; 4],
     right: &mut [u64],
     used: &mut [bool],
-    pivots: &mut [usize],
+    answer: &mut [u64],
     bitwidth: u32,
 )
-    requires { ⌜ Square (now matrix) × (length (now right) ≡ 4) × (length (now used) ≡ 4) × (length (now pivots) ≡ 4) × (bitwidth ≤ 64) ⌝ }
+    requires { ⌜ Square (now matrix) × (length (now right) ≡ 4) × (length (now used) ≡ 4) × (length (now answer) ≡ 4) × (bitwidth ≤ 64) ⌝ }
     ensures { λ r. ⌜ Square (now (matrix .exit)) × ((s : State)
-        → Shown bitwidth (length (now (right .entry))) 4 s 0 (joined (now (matrix .entry))) (now (right .entry)) (now (used .entry)) (now (pivots .entry))
+        → Shown bitwidth (length (now (right .entry))) 4 s 0 (joined (now (matrix .entry))) (now (right .entry)) (now (used .entry)) (now (answer .entry))
         → Shown bitwidth (length (now (right .entry))) 4 (forward bitwidth (length (now (right .entry))) s 4) 4
-        (joined (now (matrix .exit))) (now (right .exit)) (now (used .exit)) (now (pivots .exit))) ⌝ }
+        (joined (now (matrix .exit))) (now (right .exit)) (now (used .exit)) (now (answer .exit))) ⌝ }
 {
     let mut column = 0;
     while column < 4 {
-        eliminate_column(matrix, right, used, pivots, column, bitwidth);
+        eliminate_column(matrix, right, used, answer, column, bitwidth);
         column += 1;
     }
 }

@@ -31,7 +31,7 @@ fn rest_of(
     arith::mod_sub(right[pivot], known, bitwidth)
 }
 
-// One column: its value is put into the answer, unless its pivot's power of two does not divide what is left of the right side.
+// One column: its value is put into the answer, which stays as it is before that column, unless its pivot's power of two does not divide what is left of the right side.
 fn solve_column(
     matrix: &[[u64; 4]; 4],
     right: &[u64],
@@ -42,7 +42,8 @@ fn solve_column(
 ) -> bool
     requires { ⌜ Square (now matrix) × (length (now right) ≡ 4) × (length (now answer) ≡ 4) × (column < 4) × (pivot < 4) ⌝ }
     requires { ⌜ (bitwidth ≤ 64) × (twosIn bitwidth (at (joined (now matrix)) (pivot * 4 + column)) < bitwidth) ⌝ }
-    ensures { λ r. ⌜ ((s : State) → Shows (length (now (right .entry))) 4 s (joined (now (matrix .entry))) (now (right .entry)) → s .pivot column ≡ pivot
+    ensures keeps { λ r. ⌜ ((j : ℕ) → j < column → at (now (answer .exit)) j ≡ at (now (answer .entry)) j) ⌝ }
+    ensures solves { λ r. ⌜ ((s : State) → Shows (length (now (right .entry))) 4 s (joined (now (matrix .entry))) (now (right .entry)) → s .pivot column ≡ pivot
         → Solved bitwidth 4 s column (now (answer .entry)) (now (answer .exit)) r) ⌝ }
 {
     let entry = matrix[pivot][column];
@@ -56,26 +57,25 @@ fn solve_column(
     true
 }
 
-// All columns, last column first; it ends at the first that does not divide.
+// All columns, last column first: each reads its pivot row in `answer`, and puts its value there. It ends at the first that does not divide.
 pub(crate) fn substitute(
     matrix: &[[u64; 4]; 4],
     right: &[u64],
-    pivots: &[usize],
     answer: &mut [u64],
     bitwidth: u32,
 ) -> bool
-    requires { ⌜ Square (now matrix) × (length (now right) ≡ 4) × (length (now pivots) ≡ 4) × (length (now answer) ≡ 4) × (bitwidth ≤ 64) ⌝ }
-    requires { ⌜ ((j : ℕ) → j < 4 → (at (now pivots) j < length (now right))
-        × (twosIn bitwidth (at (joined (now matrix)) (at (now pivots) j * 4 + j)) < bitwidth)) ⌝ }
+    requires { ⌜ Square (now matrix) × (length (now right) ≡ 4) × (length (now answer) ≡ 4) × (bitwidth ≤ 64) ⌝ }
+    requires { ⌜ ((j : ℕ) → j < 4 → (at (now answer) j < length (now right))
+        × (twosIn bitwidth (at (joined (now matrix)) (at (now answer) j * 4 + j)) < bitwidth)) ⌝ }
     ensures { λ r. ⌜ ((s : State) → Shows (length (now (right .entry))) 4 s (joined (now (matrix .entry))) (now (right .entry))
-        → ((j : ℕ) → j < 4 → at (now (pivots .entry)) j ≡ s .pivot j)
+        → ((j : ℕ) → j < 4 → at (now (answer .entry)) j ≡ s .pivot j)
         → Substituted bitwidth 4 s (now (answer .exit)) r) ⌝ }
 {
-    tables::clear(answer);
     let mut column = 4;
     while 0 < column {
         column -= 1;
-        if !solve_column(matrix, right, answer, column, pivots[column], bitwidth) {
+        let pivot = answer[column] as usize;
+        if !solve_column(matrix, right, answer, column, pivot, bitwidth) {
             return false;
         }
     }

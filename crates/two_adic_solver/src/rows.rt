@@ -101,12 +101,27 @@ pub(crate) fn multiplier(entry: u64, twos: u32, v: u64, bitwidth: u32) -> u64
     arith::wrapping_mul(entry >> twos, v) & arith::bitmask(bitwidth - twos)
 }
 
-// The number less q times the other, modulo 2^bitwidth, for the mask of that width.
+// The number less q times the other, modulo 2^bitwidth, for the mask of that width. To 32 bits the low halves of both factors are enough.
+fn less_masked(number: u64, q: u64, other: u64, mask: u64, bitwidth: u32) -> u64
+    requires { ⌜ (bitwidth ≤ 64) × (mask ≡ 2 ^ bitwidth - 1) ⌝ }
+    ensures { λ r. ⌜ r ≡ minus (2 ^ bitwidth) number (q * other) ⌝ }
+{
+    if bitwidth <= 32 {
+        let low = q % 0x1_0000_0000 * (other % 0x1_0000_0000);
+        return arith::wrapping_sub(number, low) & mask;
+    }
+    arith::wrapping_sub(number, arith::wrapping_mul(q, other)) & mask
+}
+
+// The same, without the mask at 64 bits. A loop over a row has the same width in every turn: the compiler makes it a loop for each case.
 fn less_multiple(number: u64, q: u64, other: u64, mask: u64, bitwidth: u32) -> u64
     requires { ⌜ (bitwidth ≤ 64) × (mask ≡ 2 ^ bitwidth - 1) ⌝ }
     ensures { λ r. ⌜ r ≡ minus (2 ^ bitwidth) number (q * other) ⌝ }
 {
-    arith::wrapping_sub(number, arith::wrapping_mul(q, other)) & mask
+    if bitwidth == 64 {
+        return arith::wrapping_sub(number, arith::wrapping_mul(q, other));
+    }
+    less_masked(number, q, other, mask, bitwidth)
 }
 
 // The number less q times the other, modulo 2^bitwidth.

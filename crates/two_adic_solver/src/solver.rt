@@ -15,73 +15,69 @@ use crate::substitution;
 use answers::Outcome;
 use answers::Refusal;
 
-// Reduces both tables modulo 2^bitwidth and eliminates. No row is marked before.
+// Reduces both tables modulo 2^bitwidth and eliminates; `answer` ends with the pivot rows. No row is marked before.
 fn eliminate_tables(
     matrix: &mut [u64],
     right: &mut [u64],
     used: &mut [bool],
-    pivots: &mut [usize],
-    room: &mut [u64],
+    answer: &mut [u64],
     columns: usize,
     bitwidth: u32,
 )
     requires { ⌜ (length (now matrix) ≡ length (now right) * columns) × (length (now matrix) ≤ 65536) × (columns ≤ 65536) ⌝ }
-    requires { ⌜ (length (now right) ≤ length (now used)) × (columns ≤ length (now pivots)) × (bitwidth ≤ 64) × (columns ≤ length (now room)) ⌝ }
+    requires { ⌜ (length (now right) ≤ length (now used)) × (bitwidth ≤ 64) × (length (now answer) ≡ columns) ⌝ }
     ensures { λ r. ⌜ (((i : ℕ) → i < length (now (right .entry)) → getD (now (used .entry)) i false ≡ false)
         → Shown bitwidth (length (now (right .entry))) columns
         (eliminated bitwidth (length (now (right .entry))) columns (system bitwidth columns (now (matrix .entry)) (now (right .entry)))) columns
-        (now (matrix .exit)) (now (right .exit)) (now (used .exit)) (now (pivots .exit))) ⌝ }
+        (now (matrix .exit)) (now (right .exit)) (now (used .exit)) (now (answer .exit))) ⌝ }
 {
     rows::reduce(matrix, bitwidth);
     rows::reduce(right, bitwidth);
-    elimination::eliminate(matrix, right, used, pivots, room, columns, bitwidth);
+    elimination::eliminate(matrix, right, used, answer, columns, bitwidth);
 }
 
-// The tests after the elimination, and back-substitution into the answer.
+// The tests after the elimination, and back-substitution: `answer` has the pivot rows at first, and the values at last.
 fn conclude(
     matrix: &[u64],
     right: &[u64],
     used: &[bool],
-    pivots: &[usize],
     answer: &mut [u64],
     columns: usize,
     bitwidth: u32,
 ) -> bool
     requires { ⌜ (length (now matrix) ≡ length (now right) * columns) × (length (now matrix) ≤ 65536) × (length (now answer) ≡ columns) ⌝ }
-    requires { ⌜ (length (now right) ≤ length (now used)) × (columns ≤ length (now pivots)) × (bitwidth ≤ 64) × Ended bitwidth
-        (length (now right)) columns (now matrix) (now right) (now used) (now pivots) ⌝ }
+    requires { ⌜ (length (now right) ≤ length (now used)) × (bitwidth ≤ 64)
+        × Ended bitwidth (length (now right)) columns (now matrix) (now right) (now used) (now answer) ⌝ }
     ensures { λ r. ⌜ ((s : State)
-        → Shown bitwidth (length (now (right .entry))) columns s columns (now (matrix .entry)) (now (right .entry)) (now (used .entry)) (now (pivots .entry))
+        → Shown bitwidth (length (now (right .entry))) columns s columns (now (matrix .entry)) (now (right .entry)) (now (used .entry)) (now (answer .entry))
         → Concluded bitwidth (length (now (right .entry))) columns s (now (answer .exit)) r) ⌝ }
 {
-    if !substitution::pivots_found(pivots, columns, right.len()) {
+    if !substitution::pivots_found(answer, columns, right.len()) {
         return false;
     }
     if !substitution::rights_vanish(right, used) {
         return false;
     }
-    substitution::substitute(matrix, right, pivots, answer, columns, bitwidth)
+    substitution::substitute(matrix, right, answer, columns, bitwidth)
 }
 
-// A system that fits, with room for the marks of the used rows, for each column's pivot row and for a copy of one.
+// A system that fits, with room for the marks of the used rows. The pivot rows stand in `answer` until back-substitution puts the values there.
 pub(crate) fn solve_with(
     matrix: &mut [u64],
     right: &mut [u64],
     used: &mut [bool],
-    pivots: &mut [usize],
-    room: &mut [u64],
     columns: usize,
     bitwidth: u32,
     answer: &mut [u64],
 ) -> Outcome
     requires { ⌜ (length (now matrix) ≡ length (now right) * columns) × (length (now matrix) ≤ 65536) × (columns ≤ 65536) × (length (now answer) ≡ columns) ⌝ }
-    requires { ⌜ (length (now right) ≤ length (now used)) × (columns ≤ length (now pivots)) × (bitwidth ≤ 64) ×
-        ((i : ℕ) → i < length (now right) → getD (now used) i false ≡ false) × (columns ≤ length (now room)) ⌝ }
+    requires { ⌜ (length (now right) ≤ length (now used)) × (bitwidth ≤ 64)
+        × ((i : ℕ) → i < length (now right) → getD (now used) i false ≡ false) ⌝ }
     ensures { λ r. ⌜ Finished bitwidth columns (now (matrix .entry)) (now (right .entry)) (now (matrix .exit)) (now (right .exit))
         (now (answer .exit)) (saidNumber r) ⌝ }
 {
-    eliminate_tables(matrix, right, used, pivots, room, columns, bitwidth);
-    if conclude(matrix, right, used, pivots, answer, columns, bitwidth) {
+    eliminate_tables(matrix, right, used, answer, columns, bitwidth);
+    if conclude(matrix, right, used, answer, columns, bitwidth) {
         return Outcome::Accepted;
     }
     tables::clear(answer);

@@ -14,13 +14,13 @@ ghost use Rattle.two_adic_solver.specs.Solved.{restOf, Solved, Substitut
 use crate::rows;
 
 // Whether every column has a pivot row.
-pub(crate) fn pivots_found(pivots: &[usize], columns: usize, rows: usize) -> bool
+pub(crate) fn pivots_found(pivots: &[u64], columns: usize, rows: usize) -> bool
     requires { ⌜ columns ≤ length (now pivots) ⌝ }
     ensures { λ r. ⌜ r ≡ every columns (λ c. ltb (at (now (pivots .entry)) c) rows) ⌝ }
 {
     let mut c = 0;
     while c < columns {
-        if rows <= pivots[c] {
+        if rows <= pivots[c] as usize {
             return false;
         }
         c += 1;
@@ -89,7 +89,7 @@ fn rest_of(
     arith::mod_sub(right[pivot], known, bitwidth)
 }
 
-// One column: its value is put into the answer, unless its pivot's power of two does not divide what is left of the right side.
+// One column: its value is put into the answer, which stays as it is before that column, unless its pivot's power of two does not divide what is left of the right side.
 fn solve_column(
     matrix: &[u64],
     right: &[u64],
@@ -101,7 +101,8 @@ fn solve_column(
 ) -> bool
     requires { ⌜ (length (now matrix) ≡ length (now right) * columns) × (length (now matrix) ≤ 65536) × (column < columns) × (pivot < length (now right)) ⌝ }
     requires { ⌜ (length (now answer) ≡ columns) × (bitwidth ≤ 64) × (twosIn bitwidth (at (now matrix) (pivot * columns + column)) < bitwidth) ⌝ }
-    ensures { λ r. ⌜ ((s : State) → Shows (length (now (right .entry))) columns s (now (matrix .entry)) (now (right .entry)) → s .pivot column ≡ pivot
+    ensures keeps { λ r. ⌜ ((j : ℕ) → j < column → at (now (answer .exit)) j ≡ at (now (answer .entry)) j) ⌝ }
+    ensures solves { λ r. ⌜ ((s : State) → Shows (length (now (right .entry))) columns s (now (matrix .entry)) (now (right .entry)) → s .pivot column ≡ pivot
         → Solved bitwidth columns s column (now (answer .entry)) (now (answer .exit)) r) ⌝ }
 {
     let entry = matrix[pivot * columns + column];
@@ -115,35 +116,26 @@ fn solve_column(
     true
 }
 
-// All columns, last column first; it ends at the first that does not divide.
+// All columns, last column first: each reads its pivot row in `answer`, and puts its value there. It ends at the first that does not divide.
 pub(crate) fn substitute(
     matrix: &[u64],
     right: &[u64],
-    pivots: &[usize],
     answer: &mut [u64],
     columns: usize,
     bitwidth: u32,
 ) -> bool
-    requires { ⌜ (length (now matrix) ≡ length (now right) * columns) × (length (now matrix) ≤ 65536) × (columns ≤ length (now pivots)) ⌝ }
+    requires { ⌜ (length (now matrix) ≡ length (now right) * columns) × (length (now matrix) ≤ 65536) ⌝ }
     requires { ⌜ (length (now answer) ≡ columns) × (bitwidth ≤ 64) ⌝ }
-    requires { ⌜ ((j : ℕ) → j < columns → (at (now pivots) j < length (now right)) × (twosIn bitwidth (at (now matrix) (at (now pivots) j * columns + j)) < bitwidth)) ⌝ }
+    requires { ⌜ ((j : ℕ) → j < columns → (at (now answer) j < length (now right)) × (twosIn bitwidth (at (now matrix) (at (now answer) j * columns + j)) < bitwidth)) ⌝ }
     ensures { λ r. ⌜ ((s : State) → Shows (length (now (right .entry))) columns s (now (matrix .entry)) (now (right .entry))
-        → ((j : ℕ) → j < columns → at (now (pivots .entry)) j ≡ s .pivot j)
+        → ((j : ℕ) → j < columns → at (now (answer .entry)) j ≡ s .pivot j)
         → Substituted bitwidth columns s (now (answer .exit)) r) ⌝ }
 {
-    tables::clear(answer);
     let mut column = columns;
     while 0 < column {
         column -= 1;
-        if !solve_column(
-            matrix,
-            right,
-            answer,
-            columns,
-            column,
-            pivots[column],
-            bitwidth,
-        ) {
+        let pivot = answer[column] as usize;
+        if !solve_column(matrix, right, answer, columns, column, pivot, bitwidth) {
             return false;
         }
     }

@@ -13,3 +13,4 @@ pub mod AnswerBox
 pub mod FitSystems
 pub mod FitAnswers
 pub mod FitCalls
+pub mod RoomLaws

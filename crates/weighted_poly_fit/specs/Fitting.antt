@@ -15,13 +15,13 @@ use Rattle.meaning.specs.Fit.{fitBox, degreeUsed, Fit, fitRows, fitColumns, fit
 
 -- ---- the system
 
--- width and degrees, of the box and of the grid, of a fit; the box's are below `size`
+-- width and degrees, of the box and of the grid, of a fit; the box's are below `size`, and a point has few powers
 pub record Shaped (w size : ℕ) (ds gs : List ℕ) : Type 0 where
   pub fits : widthFits w ≡ true
   pub high : w ≤ 64
   pub same : length gs ≡ length ds
   pub variables-few : length ds ≤ 20
-  pub narrow : size ≤ 256
+  pub powers-few : length ds * size ≤ 512
   pub below : (j : ℕ) → j < length ds → at ds j < size
 
 -- a matrix and a right side that the solver takes, with a value in x for each column

@@ -11,6 +11,7 @@ ghost use Rattle.weighted_poly_fit.specs.Fitting.{Shaped, Exact, Fitted,
 ghost use Rattle.weighted_poly_fit.specs.Fits.{Fits};
 ghost use Rattle.answers.specs.Said.{said};
 use crate::columns;
+use crate::rooms;
 use crate::systems;
 use answers::Number;
 use answers::Refusal;
@@ -22,8 +23,9 @@ pub(crate) fn lesser_degree(a: u8, b: u8) -> u8
     if a < b { a } else { b }
 }
 
-// A fit whose tables have their exact lengths, with room for the exponents and for the values of the columns. Matrix and right side end as zeros.
-fn fit_with(
+// A fit whose tables have their exact lengths, with room for a point's powers, for the exponents and for the values of the columns. Matrix and right side
+// end as zeros.
+pub(crate) fn fit_with(
     weights: &[u64],
     targets: &[u64],
     degrees: &[u8],
@@ -31,6 +33,7 @@ fn fit_with(
     most: u8,
     size: usize,
     bitwidth: u32,
+    powers: &mut [u64],
     exponents: &mut [u8],
     values: &mut [u64],
     matrix: &mut [u64],
@@ -39,11 +42,12 @@ fn fit_with(
 ) -> Number
     requires { ⌜ Shaped bitwidth size (now degrees) (now grid) ⌝ }
     requires { ⌜ Exact (fitWith bitwidth (now degrees) (now grid) most (now weights) (now targets) (now matrix) (now right) (now out)) (length (now values)) ⌝ }
-    requires { ⌜ length (now exponents) ≡ length (now values) * length (now degrees) ⌝ }
+    requires { ⌜ (length (now exponents) ≡ length (now values) * length (now degrees)) × (length (now powers) ≡ length (now degrees) * size) ⌝ }
     ensures { λ r. ⌜ Fitted (fitWith bitwidth (now (degrees .entry)) (now (grid .entry)) most (now (weights .entry)) (now (targets .entry))
         (now (matrix .entry)) (now (right .entry)) (now (out .entry))) 0 (now (matrix .exit)) (now (right .exit)) (now (out .exit)) (said r) ⌝ }
 {
     systems::fill_system(
+        powers,
         exponents,
         matrix,
         right,
@@ -69,44 +73,6 @@ fn fit_with(
     tables::clear(matrix);
     tables::clear(right);
     found
-}
-
-// A fit whose tables have their exact lengths.
-fn fit_tables(
-    weights: &[u64],
-    targets: &[u64],
-    degrees: &[u8],
-    grid: &[u8],
-    most: u8,
-    cols: usize,
-    size: usize,
-    bitwidth: u32,
-    matrix: &mut [u64],
-    right: &mut [u64],
-    out: &mut [u64],
-) -> Number
-    requires { ⌜ Shaped bitwidth size (now degrees) (now grid) ⌝ }
-    requires { ⌜ Exact (fitWith bitwidth (now degrees) (now grid) most (now weights) (now targets) (now matrix) (now right) (now out)) cols ⌝ }
-    ensures { λ r. ⌜ Fitted (fitWith bitwidth (now (degrees .entry)) (now (grid .entry)) most (now (weights .entry)) (now (targets .entry))
-        (now (matrix .entry)) (now (right .entry)) (now (out .entry))) 0 (now (matrix .exit)) (now (right .exit)) (now (out .exit)) (said r) ⌝ }
-{
-    let mut exponents = [0u8; 5120];
-    let mut values = [0u64; 256];
-    let room = cols * degrees.len();
-    fit_with(
-        weights,
-        targets,
-        degrees,
-        grid,
-        most,
-        size,
-        bitwidth,
-        &mut exponents[..room],
-        &mut values[..cols],
-        matrix,
-        right,
-        out,
-    )
 }
 
 // Whether every table has its exact length.
@@ -170,7 +136,7 @@ fn fit_box(
     if !lengths_fit(weights, targets, matrix, right, out, rows, entries, count) {
         return Number::Refused(Refusal::WrongLength);
     }
-    fit_tables(
+    rooms::fit_tables(
         weights,
         targets,
         degrees,

@@ -3,5 +3,6 @@ mod answer;
 mod columns;
 pub mod fit;
 mod matrix;
+mod rooms;
 pub mod sizes;
 mod systems;

@@ -18,8 +18,9 @@ use answers::Outcome;
 use answers::Refusal;
 
 // Lists the columns and fills the matrix and the right side of the system. `degrees` has the highest exponents, all below `size`, and `grid` the degrees of
-// the grid; there are `cols` columns.
+// the grid; there are `cols` columns. `powers` has `size` places for each variable and is used up.
 pub(crate) fn fill_system(
+    powers: &mut [u64],
     exponents: &mut [u8],
     matrix: &mut [u64],
     right: &mut [u64],
@@ -34,15 +35,14 @@ pub(crate) fn fill_system(
 )
     requires { ⌜ Shaped bitwidth size (now degrees) (now grid) ⌝ }
     requires { ⌜ (cols ≡ length (columns (now degrees) most)) × (length (now exponents) ≡ cols * length (now degrees)) ⌝ }
-    requires { ⌜ (length (now matrix) ≡ length (now weights) * cols) × (length (now targets) ≡ length (now right)) ⌝ }
+    requires { ⌜ (length (now matrix) ≡ length (now weights) * cols) × (length (now targets) ≡ length (now right))
+        × (length (now powers) ≡ length (now degrees) * size) ⌝ }
     ensures lists { λ r. ⌜ now (exponents .exit) ≡ joined (columns (now (degrees .entry)) most) ⌝ }
     ensures fills { λ r. ⌜ system bitwidth cols (now (matrix .exit)) (now (right .exit))
         ≡ fitSystem bitwidth (now (grid .entry)) (columns (now (degrees .entry)) most) (now (weights .entry)) (now (targets .entry)) ⌝ }
 {
     let variables = degrees.len();
-    let room = variables * size;
     let mut current = [0u8; 20];
-    let mut powers = [0u64; 5120];
     let mut point = [0u64; 20];
     columns::enumerate_basis(exponents, &mut current[..variables], degrees, most);
     matrix::fill_matrix(
@@ -52,7 +52,7 @@ pub(crate) fn fill_system(
         exponents,
         cols,
         size,
-        &mut powers[..room],
+        powers,
         &mut point[..variables],
         bitwidth,
     );

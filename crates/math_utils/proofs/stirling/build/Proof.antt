@@ -59,6 +59,6 @@ build-spec =
     (λ c. search needs)
     (λ c. record { fits = product-fits 32 (side c) (side c) })
     returns-2
-    (λ c κs. let w = fits (c .before .before) in (search needs, width-pos _ w, width-high _ w))
+    (λ c κs. let w = fits (c .before .before) in (omega arith, omega (arith, start (c .before .before .before) .fits .max-degree), c .before .if2 .left, width-pos _ w, width-high _ w))
     (λ c. search needs)
     returns-3)

@@ -10,18 +10,18 @@ use Rattle.two_adic_solver.proofs.FixedCalls.{square-good, length-good,
 use Rattle.two_adic_solver.proofs.fixed.solve_checked.Statement.{statement}
 use Rattle.two_adic_solver.proofs.fixed.solve_checked.Tie as tie
 
+-- the start, where the width has passed, and the call of `solve_with`
 abbrev start : tie.Else1 → tie.Start
 start c = c .before .before
 
--- the width passed
-abbrev wide : tie.After-answer → tie.Else1
-wide c = c .before .before .before .before .before
+abbrev passed : tie.After-answer → tie.Else1
+passed c = c .before .before .before .before
 
 fits : (c : tie.Else1) → widthFits (start c .args .bitwidth) ≡ true
 fits c = sym (c .before .width-fits .ensures) ∙ not-false _ (c .if1 .left)
 
-abbrev solved : tie.After-answer2 → tie.After-solve-with
-solved c = c .before .before .before .before
+abbrev called : tie.After-answer2 → tie.After-solve-with
+called c = c .before .before .before
 
 pub solve-checked-spec : {M : Type 1} → statement M
 solve-checked-spec =
@@ -29,16 +29,14 @@ solve-checked-spec =
     (tie.spec
     (λ c κs. search needs)
     (λ c. fixed-width _ _ _ (sym (c .before .width-fits .ensures) ∙ not-true _ (c .if1 .taken)))
-    (λ c. search needs) (λ c. search needs) (λ c. search needs) (λ c. search needs)
+    (λ c. search needs) (λ c. search needs) (λ c. search needs)
     (λ c κs.
-    let s = start (wide c) in
-    let g = s .good in (
-      (square-good _ _ (g .0), length-good (s .args .right) _ (g .1 .0), refl, refl, refl),
-      (width-high _ (fits (wide c)), λ i l. unmarked 4 i),
-    ))
+    let e = passed c in
+    let s = start e in
+    ((square-good _ _ (s .good .0), length-good (s .args .right) _ (s .good .1 .0), refl, refl), (width-high _ (fits e), λ i l. unmarked 4 i)))
     (λ c.
-    let k = solved c in
-    let s = start (wide (k .before)) in
-    let g = s .good in
-    fixed-solved _ (s .args .matrix) (s .args .right) (square-good _ _ (g .0)) (length-good (s .args .right) _ (g .1 .0))
-    (fits (wide (k .before))) _ _ _ _ (k .solve-with .ensures)))
+    let k = called c in
+    let e = passed (k .before) in
+    let s = start e in
+    fixed-solved _ (s .args .matrix) (s .args .right) (square-good _ _ (s .good .0)) (length-good (s .args .right) _ (s .good .1 .0))
+    (fits e) _ _ _ _ (k .solve-with .ensures)))

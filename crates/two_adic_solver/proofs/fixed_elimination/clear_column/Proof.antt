@@ -1,9 +1,12 @@
 -- The loop: the matrix is four by four, and its first `row` rows are as after the column's step.
 use Rattle.two_adic_solver.proofs.fixed_elimination.clear_column.Statement.{statement}
 use mathlib.Core.Path.{sym, _∙_}
+use mathlib.Core.List.{[]}
 use Prim.Native.Nat.{_-_, _<_, _≤_}
 use native.Mathlib.Omega.{arith}
-use lib.ListN.{length}
+use lib.ListN.{length, getD}
+use Rattle.meaning.specs.Tables.{at}
+use Rattle.meaning.specs.Factorials.{twosIn}
 use Rattle.meaning.specs.Elimination.{joined}
 use Rattle.theory.specs.Trailing.{twosIn-left-odd}
 use Rattle.two_adic_solver.specs.Fixed.{Square}
@@ -19,6 +22,33 @@ Inv-loop matrix₀ right₀ used column pivot bitwidth entry twos v row₀ matri
 abbrev μ-loop : tie.MeasureT-loop
 μ-loop matrix₀ right₀ used column pivot bitwidth entry twos v row₀ matrix right row = 4 - row
 
+-- the start, where the twos and the inverse are known, the turn, and its row cleared
+abbrev start : tie.After-height Inv-loop μ-loop → tie.Start Inv-loop μ-loop
+start c = c .before .before .before .before
+
+abbrev twos-of : tie.After-pivot-inverse Inv-loop μ-loop → tie.After-height Inv-loop μ-loop
+twos-of c = c .before
+
+abbrev inverse-of : tie.At-loop Inv-loop μ-loop → tie.After-pivot-inverse Inv-loop μ-loop
+inverse-of c = c .before
+
+abbrev turn : tie.After-shared-slice-known2 Inv-loop μ-loop → tie.In-loop Inv-loop μ-loop
+turn c = c .before .before .before
+
+abbrev cleared : tie.After-slice-known2 Inv-loop μ-loop → tie.After-clear-row Inv-loop μ-loop
+cleared c = c .before .before
+
+abbrev begun : tie.At-loop Inv-loop μ-loop → tie.Start Inv-loop μ-loop
+begun b = start (twos-of (inverse-of b))
+
+-- the pivot's entry has fewer twos than the width, and its row a right side
+low : (s : tie.Start Inv-loop μ-loop) →
+    let a = s .args in twosIn (a .bitwidth) (at (getD (a .matrix .now) (a .pivot) []) (a .column)) < a .bitwidth
+low s = low-entry (s .pre .0 .0) _ (s .args .pivot) (s .args .column) (s .pre .0 .4) (s .pre .0 .3) (s .pre .1 .0)
+
+pivot-lt : (s : tie.Start Inv-loop μ-loop) → s .args .pivot < length (s .args .right .now)
+pivot-lt s = omega (arith, s .pre .0 .1, s .pre .0 .4)
+
 pub clear-column-spec : {M : Type 1} → statement M
 clear-column-spec =
     tie.close
@@ -28,52 +58,39 @@ clear-column-spec =
     (λ c. search needs) (λ c. search needs) (λ c. search needs) (λ c. search needs)
     (λ c κs. search needs)
     (λ c κs.
-    let s = c .before .before .before .before in
-    let p = s .pre in
-    let low = low-entry (p .0 .0) _ (s .args .pivot) (s .args .column) (p .0 .4) (p .0 .3) (p .1 .0) in
-    rw (c .height .ensures) (low, p .1 .1, twosIn-left-odd (s .args .bitwidth) _ low))
-    (λ c.
-    let s = c .before .before .before .before .before in
-    (s .pre .0 .0, cleared-start _ _ _ _ _ _ _ (omega (arith, s .pre .0 .1, s .pre .0 .4))))
-    (λ c.
-    let i = c .before .before .before in
-    omega (arith, i .before .before .before .before .before .before .before .pre .0 .2, i .loop-test .taken))
+    let s = start c in
+    rw (c .height .ensures) (low s, s .pre .1 .1, twosIn-left-odd (s .args .bitwidth) _ (low s)))
+    (λ c. let s = start (twos-of c) in (s .pre .0 .0, cleared-start _ _ _ _ _ _ _ (pivot-lt s)))
+    (λ c. let i = turn c in omega (arith, begun (i .before) .pre .0 .2, i .loop-test .taken))
     (λ c κs.
-    let s = c .before .before .before .before .before .before .before .before .before .before in
+    let t = turn c in
+    let i = t .before .loop .inv in
+    let h = twos-of (inverse-of (t .before)) in
+    let s = start h in
     let p = s .pre in
-    let i = c .before .before .before .before .loop .inv in
-    let low = low-entry (p .0 .0) _ (s .args .pivot) (s .args .column) (p .0 .4) (p .0 .3) (p .1 .0) in (
-      (i .0, i .1 .same-right ∙ p .0 .1, p .0 .3, p .0 .4, c .before .before .before .loop-test .taken),
-      (rw (c .before .before .before .before .before .before .height .ensures) low, p .1 .1),
-    ))
+    ((i .0, i .1 .same-right ∙ p .0 .1, p .0 .3, p .0 .4, t .loop-test .taken), (rw (h .height .ensures) (low s), p .1 .1)))
     (λ c. search needs) (λ c. search needs)
     (λ c.
-    let s = c .before .before .before .before .before .before .before .before .before .before .before .before .before in
-    let p = s .pre in
-    let b = c .before .before .before .before .before .before .before in
+    let k = cleared c .clear-row in
+    let t = turn (cleared c .before) in
+    let b = t .before in
     let i = b .loop .inv in
-    let k = c .before .before .clear-row in
-    let lp : s .args .pivot < length (s .args .right .now) = omega (arith, p .0 .1, p .0 .4) in
-    let lr : b .loop .row < length (b .loop .right) = omega
-    (arith, i .1 .same-right, p .0 .1, c .before .before .before .before .before .before .loop-test .taken) in (
+    let v = inverse-of b in
+    let h = twos-of v in
+    let s = start h in
+    let p = s .pre in
+    let lr : b .loop .row < length (b .loop .right) = omega (arith, i .1 .same-right, p .0 .1, t .loop-test .taken) in (
       k .ensures .0,
-      cleared-step _ _ _ _ _ _ _ lp (p .0 .3) _ (c .before .before .before .before .before .before .before .before .before .height .result)
-          (c .before .before .before .before .before .before .before .before .pivot-inverse .result)
-          (sym (joined-entry (p .0 .0) (s .args .pivot) (s .args .column) (p .0 .4) (p .0 .3)))
-          (c .before .before .before .before .before .before .before .before .before .height .ensures)
-          (c .before .before .before .before .before .before .before .before .pivot-inverse .ensures)
-          (joined (b .loop .matrix)) (b .loop .right)
-          (joined (k .last .0)) (k .last .1 .0)
-          (b .loop .row) (i .1) lr (joined-length (k .ensures .0) ∙ sym (joined-length (i .0))) (omega arith)
+      cleared-step _ _ _ _ _ _ _ (pivot-lt s) (p .0 .3) _ (h .height .result) (v .pivot-inverse .result)
+          (sym (joined-entry (p .0 .0) (s .args .pivot) (s .args .column) (p .0 .4) (p .0 .3))) (h .height .ensures) (v .pivot-inverse .ensures)
+          (joined (b .loop .matrix)) (b .loop .right) (joined (k .last .0)) (k .last .1 .0) (b .loop .row) (i .1) lr
+          (joined-length (k .ensures .0) ∙ sym (joined-length (i .0))) (omega arith)
           (λ u h e small zeros row right. k .ensures .1 u h e small zeros),
     ))
     (λ c. c .before .loop .inv .1 .same-right)
     (λ c.
-    let s = c .before .before .before .before .before .before .before in
     let b = c .before in
+    let s = begun b in
     let i = b .loop .inv in
-    let done : length (b .loop .right) ≤ b .loop .row = omega (arith, i .1 .same-right, s .pre .0 .1, c .loop-test .left) in (
-      i .0,
-      cleared-done _ _ _ _ _ _ _ (omega (arith, s .pre .0 .1, s .pre .0 .4)) (joined (b .loop .matrix)) (b .loop .right) (b .loop .row)
-          (i .1) done,
-    )))
+    let done : length (b .loop .right) ≤ b .loop .row = omega (arith, i .1 .same-right, s .pre .0 .1, c .loop-test .left) in
+    (i .0, cleared-done _ _ _ _ _ _ _ (pivot-lt s) (joined (b .loop .matrix)) (b .loop .right) (b .loop .row) (i .1) done)))

@@ -11,11 +11,21 @@ use borrow.Author.Needs.{needs}
 use Rattle.two_adic_solver.proofs.fixed_elimination.eliminate.Tie as tie
 
 abbrev Inv-loop : tie.InvT-loop
-Inv-loop matrix₀ right₀ used₀ pivots₀ bitwidth column₀ matrix right used pivots column =
-    Square matrix × Passed bitwidth 4 (joined matrix₀) right₀ used₀ pivots₀ (joined matrix) right used pivots column
+Inv-loop matrix₀ right₀ used₀ answer₀ bitwidth column₀ matrix right used answer column =
+    Square matrix × Passed bitwidth 4 (joined matrix₀) right₀ used₀ answer₀ (joined matrix) right used answer column
 
 abbrev μ-loop : tie.MeasureT-loop
-μ-loop matrix₀ right₀ used₀ pivots₀ bitwidth column₀ matrix right used pivots column = 4 - column
+μ-loop matrix₀ right₀ used₀ answer₀ bitwidth column₀ matrix right used answer column = 4 - column
+
+-- the start, the turn before its call, and its call
+abbrev start : tie.At-loop Inv-loop μ-loop → tie.Start Inv-loop μ-loop
+start c = c .before .before .before .before
+
+abbrev turn : tie.After-eliminate-column-arg4 Inv-loop μ-loop → tie.In-loop Inv-loop μ-loop
+turn c = c .before .before .before .before
+
+abbrev called : tie.After-slice-known6 Inv-loop μ-loop → tie.After-eliminate-column Inv-loop μ-loop
+called c = c .before .before .before .before .before .before
 
 pub eliminate-spec : {M : Type 1} → statement M
 eliminate-spec =
@@ -25,18 +35,19 @@ eliminate-spec =
     μ-loop
     (λ c. (c .before .before .before .pre .0, passed-start _ _ _ _ _ _))
     (λ c κs.
-    let p = c .before .before .before .before .before .before .before .before .before .pre in
-    let i = c .before .before .before .before .before .loop .inv in
-    ((i .0, i .1 .same-right ∙ p .1, i .1 .same-used ∙ p .2, i .1 .same-pivots ∙ p .3), (c .before .before .before .before .loop-test .taken, p .4)))
+    let t = turn c in
+    let i = t .before .loop .inv in
+    let p = start (t .before) .pre in
+    ((i .0, i .1 .same-right ∙ p .1, i .1 .same-used ∙ p .2, i .1 .same-pivots ∙ p .3), (t .loop-test .taken, p .4)))
     (λ c. search needs) (λ c. search needs)
     (λ c.
-    let b = c .before .before .before .before .before .before .before .before .before .before .before .before in
-    let i = b .loop .inv in
-    let k = c .before .before .before .before .before .before .eliminate-column in (
+    let k = called c .eliminate-column in
+    let t = turn (called c .before) in
+    let b = t .before in
+    let i = b .loop .inv in (
       k .ensures .0,
-      passed-step _ _ _ _ _ _ (joined (b .loop .matrix)) (b .loop .right) (b .loop .used) (b .loop .pivots)
-          (joined (k .last .0)) (k .last .1 .0) (k .last .1 .1 .0) (k .last .1 .1 .1 .0) (b .loop .column) (i .1)
-          (c .before .before .before .before .before .before .before .before .before .before .before .loop-test .taken)
+      passed-step _ _ _ _ _ _ (joined (b .loop .matrix)) (b .loop .right) (b .loop .used) (b .loop .answer)
+          (joined (k .last .0)) (k .last .1 .0) (k .last .1 .1 .0) (k .last .1 .1 .1 .0) (b .loop .column) (i .1) (t .loop-test .taken)
           (joined-length (k .ensures .0) ∙ sym (joined-length (i .0))) (omega arith) (omega arith) (omega arith) (k .ensures .1),
     ))
     (λ c. c .before .loop .inv .1 .same-right) (λ c. c .before .loop .inv .1 .same-used) (λ c. c .before .loop .inv .1 .same-pivots)
@@ -44,6 +55,6 @@ eliminate-spec =
     let b = c .before in
     let i = b .loop .inv in (
       i .0,
-      passed-done _ _ _ _ _ _ (joined (b .loop .matrix)) (b .loop .right) (b .loop .used) (b .loop .pivots) (b .loop .column) (i .1)
+      passed-done _ _ _ _ _ _ (joined (b .loop .matrix)) (b .loop .right) (b .loop .used) (b .loop .answer) (b .loop .column) (i .1)
           (c .loop-test .left),
     )))

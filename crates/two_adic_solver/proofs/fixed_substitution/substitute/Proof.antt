@@ -1,20 +1,49 @@
--- The loop keeps, of the rows one behind the other, what the bare solver's keeps: the columns from `column` on divide and have their values.
+-- The loop keeps, of the rows one behind the other, what the bare solver's keeps: the columns from `column` on divide and have their values, those before
+-- still their pivot rows.
 use Rattle.two_adic_solver.proofs.fixed_substitution.substitute.Statement.{statement}
 use mathlib.Core.Path.{subst}
-use Prim.Native.Nat.{_-_, _<_}
+use Prim.Native.Nat.{_+_, _*_, _-_, _<_}
 use native.Mathlib.Omega.{arith}
 use borrow.Author.Tests.{not-true, not-false}
+use lib.ListN.{length}
+use Rattle.meaning.specs.Tables.{at}
+use Rattle.meaning.specs.Factorials.{twosIn}
 use Rattle.meaning.specs.Elimination.{joined}
 use Rattle.two_adic_solver.specs.Solved.{Solved}
-use Rattle.two_adic_solver.proofs.SubstitutionLaws.{Substituting, substituting-start, substituting-step, substituting-fails, substituting-done}
+use Rattle.two_adic_solver.proofs.SubstitutionLaws.{Substituting, substituting-start, next-lt, next-low, substituting-step, substituting-fails, substituting-done}
 use borrow.Author.Needs.{needs}
 use Rattle.two_adic_solver.proofs.fixed_substitution.substitute.Tie as tie
 
 abbrev Inv-loop : tie.InvT-loop
-Inv-loop matrix right pivots answer₀ bitwidth column₀ answer column = Substituting bitwidth 4 pivots (joined matrix) right answer column
+Inv-loop matrix right answer₀ bitwidth column₀ answer column = Substituting bitwidth 4 answer₀ (joined matrix) right answer column
 
 abbrev μ-loop : tie.MeasureT-loop
-μ-loop matrix right pivots answer₀ bitwidth column₀ answer column = column
+μ-loop matrix right answer₀ bitwidth column₀ answer column = column
+
+-- the start, the turn, and the test of the column
+abbrev start : tie.After-slice-known Inv-loop μ-loop → tie.Start Inv-loop μ-loop
+start c = c .before .before
+
+abbrev solved : tie.After-slice-known3 Inv-loop μ-loop → tie.After-solve-column Inv-loop μ-loop
+solved c = c .before .before
+
+abbrev turn : tie.After-solve-column Inv-loop μ-loop → tie.In-loop Inv-loop μ-loop
+turn c = c .before .before .before
+
+abbrev begun : tie.In-loop Inv-loop μ-loop → tie.Start Inv-loop μ-loop
+begun c = start (c .before .before)
+
+-- what a turn's column has: it is one, and its pivot is a row whose entry has fewer twos than the width
+column-lt : (c : tie.In-loop Inv-loop μ-loop) → c .before .loop .column - 1 < 4
+column-lt c = let l = c .before .loop in next-lt _ _ _ _ _ (l .answer) (l .answer) (l .column) (c .loop-test .taken) (l .inv)
+
+pivot-low : (c : tie.In-loop Inv-loop μ-loop) →
+    let l = c .before .loop in let a = begun c .args in
+    (at (l .answer) (l .column - 1) < length (a .right .now))
+    × (twosIn (a .bitwidth) (at (joined (a .matrix .now)) (at (l .answer) (l .column - 1) * 4 + (l .column - 1))) < a .bitwidth)
+pivot-low c =
+    let l = c .before .loop in
+    next-low _ _ _ _ _ (l .answer) (l .answer) (l .column) (c .loop-test .taken) (l .inv) (begun c .pre .1)
 
 pub substitute-spec : {M : Type 1} → statement M
 substitute-spec =
@@ -22,31 +51,26 @@ substitute-spec =
     (tie.spec
     Inv-loop
     μ-loop
-    (λ c κs. search needs)
-    (λ c. substituting-start _ _ _ _ _ _ _ (c .before .before .clear .ensures) (c .before .before .before .before .before .before .before .pre .0 .3))
+    (λ c. substituting-start _ _ _ _ _ (start c .pre .0 .2))
     (λ c. search needs) (λ c. search needs)
-    (λ c.
-    let b = c .before .before .before in
-    let s = b .before .before .before .before .before .before .before .before in
-    omega (arith, s .pre .0 .2, b .loop .inv .within, c .before .before .loop-test .taken))
+    (λ c. omega (arith, column-lt (c .before), c .before .before .loop .inv .same))
     (λ c κs.
-    let s = c .before .before .before .before .before .before .before .before .before .before .before in
-    let p = s .pre in
-    let b = c .before .before .before in
-    let l : b .loop .column - 1 < 4 = omega (arith, b .loop .inv .within, c .before .before .loop-test .taken) in
-    let q = p .1 (b .loop .column - 1) l in
-    ((p .0 .0, p .0 .1, b .loop .inv .same, l, omega (arith, q .0, p .0 .1)), (p .0 .4, q .1)))
+    let i = c .before .before in
+    let p = begun i .pre in
+    ((p .0 .0, p .0 .1, i .before .loop .inv .same, column-lt i, omega (arith, pivot-low i .0, p .0 .1)), (p .0 .3, pivot-low i .1)))
     (λ c. search needs)
     (λ c.
-    let b = c .before .before .before .before .before .before .before in
-    substituting-fails _ _ _ _ _ (b .loop .answer) _ (b .loop .column) (c .before .before .before .before .before .before .loop-test .taken)
-    (b .loop .inv)
-    (λ st h e. subst (Solved _ _ st _ _ _) (not-true _ (c .if1 .taken)) (c .before .before .before .solve-column .ensures st h e)))
-    (λ c. omega (arith, c .before .before .before .before .before .before .loop-test .taken))
+    let k = solved (c .before) in
+    let i = turn k in
+    let l = i .before .loop in
+    substituting-fails _ _ _ _ _ (l .answer) _ (l .column) (i .loop-test .taken) (l .inv)
+    (λ st h e. subst (Solved _ _ st _ _ _) (not-true _ (c .if1 .taken)) (k .solve-column .ensures .1 st h e)))
+    (λ c. omega (arith, turn (solved (c .before)) .loop-test .taken))
     (λ c.
-    let b = c .before .before .before .before .before .before .before in
-    substituting-step _ _ _ _ _ (b .loop .answer) _ (b .loop .column) (c .before .before .before .before .before .before .loop-test .taken)
-    (b .loop .inv) (omega arith)
-    (λ st h e. subst (Solved _ _ st _ _ _) (not-false _ (c .if1 .left)) (c .before .before .before .solve-column .ensures st h e)))
+    let k = solved (c .before) in
+    let i = turn k in
+    let l = i .before .loop in
+    substituting-step _ _ _ _ _ (l .answer) _ (l .column) (i .loop-test .taken) (l .inv) (omega arith) (k .solve-column .ensures .0)
+    (λ st h e. subst (Solved _ _ st _ _ _) (not-false _ (c .if1 .left)) (k .solve-column .ensures .1 st h e)))
     (λ c. search needs)
-    (λ c. let b = c .before in substituting-done _ _ _ _ _ (b .loop .answer) (b .loop .column) (b .loop .inv) (c .loop-test .left)))
+    (λ c. let l = c .before .loop in substituting-done _ _ _ _ _ (l .answer) (l .column) (l .inv) (c .loop-test .left)))

@@ -1,12 +1,12 @@
 -- The settings of the grid decide first; where they pass there are at most twenty variables, and the degrees are parts of twenty copies.
 use borrow.Author.Needs.{needs}
-use mathlib.Core.Path.{sym, ap, subst, _∙_}
+use mathlib.Core.Path.{_≡_, sym, ap, subst, _∙_}
 use mathlib.Core.Bool.{false}
 use mathlib.Core.List.{List}
-use Prim.Native.Nat.{ℕ, _+_, _<_}
+use Prim.Native.Nat.{ℕ, _+_, _*_, _≤_, _<_}
 use native.Mathlib.Nat.{le-trans, le-of-eq}
 use native.Mathlib.Omega.{arith}
-use lib.ListN.{length, replicate}
+use lib.ListN.{length, take, replicate}
 use lib.Seq.{length-take-le}
 use Rattle.meaning.specs.Tables.{at}
 use Rattle.meaning.specs.Boxes.{cells}
@@ -17,43 +17,96 @@ use Rattle.theory.specs.Ranges.{width-high}
 use Rattle.settings.specs.Causes.{Passes, passes, settings-cells-le, take-cube}
 use Rattle.theory.specs.FitSizes.{cells-cube-le}
 use Rattle.settings.specs.Settled.{Settled, Unsettled, settled, unsettled}
+use Rattle.weighted_poly_fit.specs.Fitting.{Shaped}
 use Rattle.weighted_poly_fit.proofs.FitCalls.{cube-low, call-settled, call-turned, fitted-degrees}
+use Rattle.weighted_poly_fit.proofs.RoomLaws.{powers-few}
 use Rattle.weighted_poly_fit.proofs.fit.weighted_fit.Statement.{statement}
 use Rattle.weighted_poly_fit.proofs.fit.weighted_fit.Tie as tie
 
--- the fit that is asked for
+-- the start, the settings that pass or do not, the smaller degree, and the call of `fit_box`
+abbrev start : tie.After-check → tie.Start
+start c = c .before .before .before .before .before .before .before
+
+abbrev answered : tie.After-rows → tie.After-check
+answered c = c .before .before
+
+abbrev declined : tie.After-refusal → tie.After-check
+declined c = c .before .before
+
+abbrev lesser : tie.After-fit-box-arg3 → tie.After-lesser-degree
+lesser c = c .before .before .before .before .before
+
+abbrev passed : tie.After-lesser-degree → tie.After-rows
+passed c = c .before .before
+
+abbrev called : tie.After-slice-known6 → tie.After-fit-box
+called c = c .before .before .before .before .before .before
+
+-- the fit that is asked for, and the degrees of its grid
 abbrev asked : tie.Start → Fit
 asked s =
     let k = s .args in
     fitOf (k .total) (k .bitwidth) (k .support .now) (k .max-degree) (k .grid-degree) (k .weights .now) (k .targets .now)
     (k .matrix .now) (k .right .now) (k .out .now)
 
+abbrev grid : tie.Start → List ℕ
+grid s = cube (s .args .support .now) (s .args .grid-degree)
+
 -- the settings pass, with as many cells as they say
 ok : (c : tie.After-rows) →
-    let k = c .before .before .before .before .before .before .before .before .before .args in
-    Settled false (k .total) (widthFits (k .bitwidth)) (k .support .now) (cube (k .support .now) (k .grid-degree)) (c .rows .given .0 .0)
+    let s = start (answered c) in let k = s .args in
+    Settled false (k .total) (widthFits (k .bitwidth)) (k .support .now) (grid s) (c .rows .given .0 .0)
 unfolding settingsReply
 ok c =
-    let k = c .before .before .before .before .before .before .before .before .before .args in
-    settled false (k .total) (widthFits (k .bitwidth)) (k .support .now) (cube (k .support .now) (k .grid-degree))
-    (c .before .before .check .ensures) (c .rows .given .1)
+    let s = start (answered c) in
+    let k = s .args in
+    settled false (k .total) (widthFits (k .bitwidth)) (k .support .now) (grid s) (answered c .check .ensures) (c .rows .given .1)
 
-pass : (c : tie.After-rows) →
-    let k = c .before .before .before .before .before .before .before .before .before .args in
-    Passes (k .total) (widthFits (k .bitwidth)) (k .support .now)
+pass : (c : tie.After-rows) → let k = start (answered c) .args in Passes (k .total) (widthFits (k .bitwidth)) (k .support .now)
 pass c =
-    let k = c .before .before .before .before .before .before .before .before .before .args in
-    passes tableLimit false (k .total) (widthFits (k .bitwidth)) (k .support .now) (cube (k .support .now) (k .grid-degree)) (ok c .passes)
+    let s = start (answered c) in
+    let k = s .args in
+    passes tableLimit false (k .total) (widthFits (k .bitwidth)) (k .support .now) (grid s) (ok c .passes)
+
+grid-small : (c : tie.After-rows) → cells (grid (start (answered c))) ≤ 65536
+grid-small c =
+    let s = start (answered c) in
+    let k = s .args in
+    settings-cells-le tableLimit false (k .total) (widthFits (k .bitwidth)) (k .support .now) (grid s) (ok c .passes)
 
 -- the settings are turned down
 turned : (c : tie.After-refusal) →
-    let k = c .before .before .before .before .before .before .before .before .before .args in
-    Unsettled false (k .total) (widthFits (k .bitwidth)) (k .support .now) (cube (k .support .now) (k .grid-degree)) (c .refusal .given .0 .0)
+    let s = start (declined c) in let k = s .args in
+    Unsettled false (k .total) (widthFits (k .bitwidth)) (k .support .now) (grid s) (c .refusal .given .0 .0)
 unfolding settingsReply
 turned c =
-    let k = c .before .before .before .before .before .before .before .before .before .args in
-    unsettled false (k .total) (widthFits (k .bitwidth)) (k .support .now) (cube (k .support .now) (k .grid-degree))
-    (c .before .before .check .ensures) (c .refusal .given .1)
+    let s = start (declined c) in
+    let k = s .args in
+    unsettled false (k .total) (widthFits (k .bitwidth)) (k .support .now) (grid s) (declined c .check .ensures) (c .refusal .given .1)
+
+-- the shape of what is asked of `fit_box`
+shaped : (c : tie.After-lesser-degree) →
+    let k = start (answered (passed c)) .args in let n = length (k .support .now) in let d = c .lesser-degree .result in
+    Shaped (k .bitwidth) (d + 1) (take n (replicate 20 d)) (take n (replicate 20 (k .grid-degree)))
+shaped c =
+    let b = passed c in
+    let s = start (answered b) in
+    let k = s .args in
+    let p = pass b in
+    let l = c .lesser-degree in
+    let d = l .result in
+    let n = length (k .support .now) in
+    let long = length-take-le n (replicate 20 d) (p .short) in
+    let less : d ≤ k .grid-degree = omega (arith, l .ensures) in
+    record {
+      fits = p .width;
+      high = width-high (k .bitwidth) (p .width);
+      same = length-take-le n (replicate 20 (k .grid-degree)) (p .short) ∙ sym long;
+      variables-few = le-trans (le-of-eq long) (p .short);
+      powers-few =
+          le-trans (le-of-eq (ap (_* (d + 1)) long)) (powers-few n (k .grid-degree) d (p .short) (omega (arith, s .fits .grid-degree)) (grid-small b) less);
+      below = λ j h. subst (λ (ds : List ℕ). at ds j < d + 1) (sym (take-cube (k .support .now) d (p .short))) (cube-low n d j);
+    }
 
 pub weighted-fit-spec : {M : Type 1} → statement M
 weighted-fit-spec =
@@ -63,52 +116,39 @@ weighted-fit-spec =
     (λ c. search needs)
     (λ c. search needs)
     (λ c κs. search needs)
-    (λ c. pass (c .before .before) .short)
-    (λ c. sym (length-take-le _ _ (pass (c .before .before .before) .short)))
-    (λ c. pass (c .before .before .before) .short)
-    (λ c. sym (length-take-le _ _ (pass (c .before .before .before .before) .short)))
+    (λ c. pass (passed c) .short)
+    (λ c. sym (length-take-le _ _ (pass (passed (c .before)) .short)))
+    (λ c. pass (passed (c .before)) .short)
+    (λ c. sym (length-take-le _ _ (pass (passed (c .before .before)) .short)))
     (λ c. search needs)
     (λ c. search needs)
     (λ c κs.
-    let k = c .before .before .before .before .before .before .before .before .before .before .before .before .before .before .before .before .args in
+    let l = lesser c in
+    let b = passed l in
+    let k = start (answered b) .args in
     let support = k .support .now in
-    let r = ok (c .before .before .before .before .before .before .before) in
-    let p = pass (c .before .before .before .before .before .before .before) in
-    let l = c .before .before .before .before .before .lesser-degree in
-    let d = l .result in
-    let n = length support in
-    let g = take-cube support (k .grid-degree) (p .short) in
-    let t = take-cube support d (p .short) in
-    let long = length-take-le n (replicate 20 d) (p .short) in (
-      record {
-        fits = p .width;
-        high = width-high (k .bitwidth) (p .width);
-        same = length-take-le n (replicate 20 (k .grid-degree)) (p .short) ∙ sym long;
-        variables-few = le-trans (le-of-eq long) (p .short);
-        narrow = omega (arith, l .ensures);
-        below = λ j h. subst (λ (ds : List ℕ). at ds j < d + 1) (sym t) (cube-low n d j);
-      },
+    let r = ok b in
+    let p = pass b in
+    let t = take-cube support (l .lesser-degree .result) (p .short) in (
+      shaped l,
       (
-        r .counted ∙ ap cells (sym g),
-        le-trans (le-of-eq (r .counted))
-            (settings-cells-le tableLimit false (k .total) (widthFits (k .bitwidth)) support (cube support (k .grid-degree)) (r .passes)),
-        le-trans (le-of-eq (ap cells t ∙ ap (λ (i : ℕ). cells (replicate n i)) (l .ensures)))
-            (le-trans (cells-cube-le n (k .max-degree) (k .grid-degree)) (le-of-eq (sym (r .counted)))),
+        r .counted ∙ ap cells (sym (take-cube support (k .grid-degree) (p .short))),
+        le-trans (le-of-eq (r .counted)) (grid-small b),
+        le-trans (le-of-eq (ap cells t ∙ ap (λ (i : ℕ). cells (replicate (length support) i)) (l .lesser-degree .ensures)))
+            (le-trans (cells-cube-le (length support) (k .max-degree) (k .grid-degree)) (le-of-eq (sym (r .counted)))),
       ),
     ))
-    (λ c.
-    let b = c .before in
-    call-turned (asked (b .before .before .before .before .before .before .before .before .before)) (b .refusal .given .0 .0) (turned b .refuses))
+    (λ c. let b = c .before in call-turned (asked (start (declined b))) (b .refusal .given .0 .0) (turned b .refuses))
     (λ c. search needs) (λ c. search needs) (λ c. search needs)
     (λ c.
-    let s =
-    c .before .before .before .before .before .before .before .before .before .before .before .before .before .before .before .before
-    .before .before .before .before .before .before .before in
+    let f = called c in
+    let l = lesser (f .before) in
+    let b = passed l in
+    let s = start (answered b) in
     let k = s .args in
-    let b = c .before .before .before .before .before .before .before .before .before .before .before .before .before .before in
-    let l = c .before .before .before .before .before .before .before .before .before .before .before .before .lesser-degree in
     let h = pass b .short in
     call-settled (asked s) (ok b .passes) _ _ _ _
     (fitted-degrees (k .bitwidth) (k .max-degree) (k .weights .now) (k .targets .now) (k .matrix .now) (k .right .now) (k .out .now)
-    (take-cube (k .support .now) (l .result) h ∙ ap (cube (k .support .now)) (l .ensures)) (take-cube (k .support .now) (k .grid-degree) h)
-    (c .before .before .before .before .before .before .fit-box .ensures))))
+    (take-cube (k .support .now) (l .lesser-degree .result) h ∙ ap (cube (k .support .now)) (l .lesser-degree .ensures))
+    (take-cube (k .support .now) (k .grid-degree) h)
+    (f .fit-box .ensures))))

@@ -10,6 +10,19 @@ use Rattle.weighted_poly_fit.proofs.FitAnswers.{answered-accepted, answ
 use Rattle.weighted_poly_fit.proofs.systems.answer_system.Statement.{statement}
 use Rattle.weighted_poly_fit.proofs.systems.answer_system.Tie as tie
 
+-- the start, the system solved, and its no and yes
+abbrev start : tie.After-solve → tie.Start
+start c = c .before .before .before .before .before .before .before .before .before .before
+
+abbrev solved : tie.After-slice-known7 → tie.After-solve
+solved c = c .before .before .before .before .before .before
+
+abbrev refused : tie.After-no-answer → tie.Then1
+refused c = c .before .before
+
+abbrev accepted : tie.After-fill-answer-arg2 → tie.Else1
+accepted c = c .before .before
+
 pub answer-system-spec : {M : Type 1} → statement M
 answer-system-spec =
     tie.close
@@ -18,27 +31,21 @@ answer-system-spec =
     (λ c κs. search needs)
     (λ c. search needs) (λ c. search needs) (λ c. search needs) (λ c. search needs)
     (λ c.
-    let s =
-    c .before .before .before .before .before .before .before .before .before .before .before .before .before .before .before .before
-    .before .before .before .before .before in
-    let k = c .before .before .before .before .before .before .before .before .before .before .before .solve in
-    let z = c .before .before .no-answer in
-    answered-refused _ _ _ _ _ _ _ (k .ensures) (not-true _ (c .before .before .before .before .if1 .taken)) _ _ (z .ensures .0)
-    (z .ensures .1 ∙ ap (λ (n : ℕ). tabulate n (λ i. 0)) (s .pre .1 .0 .0)))
+    let z = c .before .before in
+    let e = refused z in
+    let k = solved (e .before) in
+    answered-refused _ _ _ _ _ _ _ (k .solve .ensures) (not-true _ (e .if1 .taken)) _ _ (z .no-answer .ensures .0)
+    (z .no-answer .ensures .1 ∙ ap (λ (n : ℕ). tabulate n (λ i. 0)) (start k .pre .1 .0 .0)))
     (λ c κs.
-    let s =
-    c .before .before .before .before .before .before .before .before .before .before .before .before .before .before .before .before
-    .before .before .before in
+    let k = solved (accepted c .before) in
+    let s = start k in
     let p = s .pre in
-    let k = c .before .before .before .before .before .before .before .before .before .solve in
-    let l : length (k .last .1 .1 .0) ≡ length (s .args .values .now) = omega arith in
+    let l : length (k .solve .last .1 .1 .0) ≡ length (s .args .values .now) = omega arith in
     ((p .1 .0 .0, p .1 .0 .1, p .0 .high, p .1 .0 .2), (p .1 .1 .1, l ∙ p .1 .1 .0)))
     (λ c. search needs) (λ c. search needs) (λ c. search needs) (λ c. search needs)
     (λ c.
-    let s =
-    c .before .before .before .before .before .before .before .before .before .before .before .before .before .before .before .before
-    .before .before .before .before .before .before in
-    let k = c .before .before .before .before .before .before .before .before .before .before .before .before .solve in
-    let f = c .before .before .fill-answer in
-    answered-accepted _ _ _ _ _ _ _ (k .ensures) (s .pre .1 .1 .0) (not-false _ (c .before .before .before .before .before .if1 .left)) _ _
-    (f .ensures .0) (f .ensures .1)))
+    let f = c .before .before in
+    let e = accepted (f .before) in
+    let k = solved (e .before) in
+    answered-accepted _ _ _ _ _ _ _ (k .solve .ensures) (start k .pre .1 .1 .0) (not-false _ (e .if1 .left)) _ _
+    (f .fill-answer .ensures .0) (f .fill-answer .ensures .1)))

@@ -6,6 +6,13 @@ use Rattle.weighted_poly_fit.proofs.FitAnswers.{concluded-accepted, con
 use Rattle.weighted_poly_fit.proofs.systems.solve.Statement.{statement}
 use Rattle.weighted_poly_fit.proofs.systems.solve.Tie as tie
 
+-- the start, and the solver's call
+abbrev start : tie.After-solve-2adic → tie.Start
+start c = c .before .before .before .before .before .before .before
+
+abbrev called : tie.After-slice-known6 → tie.After-solve-2adic
+called c = c .before .before .before .before .before .before
+
 pub solve-spec : {M : Type 1} → statement M
 solve-spec =
     tie.close
@@ -15,14 +22,15 @@ solve-spec =
     (λ c. search needs)
     (λ c. search needs) (λ c. search needs) (λ c. search needs)
     (λ c.
-    let s = c .before .before .before .before .before .before .before .before .before .before .before .before .before .before .before in
+    let k = called (c .before .before) in
+    let s = start k in
     let a = s .args in
     concluded-refused (a .bitwidth) (a .matrix .now) (a .right .now) (a .values .now) (s .pre) (c .enum-told .given .0 .0)
-    (sym (ap saidNumber (c .enum-told .given .1)) ∙ c .before .before .before .before .before .before .before .before .solve-2adic .ensures .0) _)
+    (sym (ap saidNumber (c .enum-told .given .1)) ∙ k .solve-2adic .ensures .0) _)
     (λ c. search needs) (λ c. search needs) (λ c. search needs)
     (λ c.
-    let s = c .before .before .before .before .before .before .before .before .before .before .before .before .before .before .before in
+    let k = called (c .before .before) in
+    let s = start k in
     let a = s .args in
-    let k = c .before .before .before .before .before .before .before .before .solve-2adic in
     concluded-accepted (a .bitwidth) (a .matrix .now) (a .right .now) (a .values .now) (s .pre)
-    (sym (ap saidNumber (c .enum-told2 .given .1)) ∙ k .ensures .0) _ (k .ensures .1 .1 .1 .0)))
+    (sym (ap saidNumber (c .enum-told2 .given .1)) ∙ k .solve-2adic .ensures .0) _ (k .solve-2adic .ensures .1 .1 .1 .0)))

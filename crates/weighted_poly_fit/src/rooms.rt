@@ -1,0 +1,176 @@
+// The room that a fit needs besides its lent tables, in two sizes: a point's powers, the exponents and the values of the columns.
+ghost use mathlib.Core.Path.{_≡_};
+ghost use Prim.Native.Nat.{_*_, _≤_, _<_};
+ghost use lib.ListN.{length};
+ghost use Rattle.weighted_poly_fit.specs.Fitting.{Shaped, Exact, Fitted, fitWith};
+ghost use Rattle.answers.specs.Said.{said};
+use crate::fit;
+use answers::Number;
+
+// With room for 16 columns and 64 powers.
+fn fit_small(
+    weights: &[u64],
+    targets: &[u64],
+    degrees: &[u8],
+    grid: &[u8],
+    most: u8,
+    cols: usize,
+    size: usize,
+    bitwidth: u32,
+    matrix: &mut [u64],
+    right: &mut [u64],
+    out: &mut [u64],
+) -> Number
+    requires { ⌜ Shaped bitwidth size (now degrees) (now grid) ⌝ }
+    requires { ⌜ Exact (fitWith bitwidth (now degrees) (now grid) most (now weights) (now targets) (now matrix) (now right) (now out)) cols ⌝ }
+    requires { ⌜ (cols ≤ 16) × (length (now degrees) * size ≤ 64) ⌝ }
+    ensures { λ r. ⌜ Fitted (fitWith bitwidth (now (degrees .entry)) (now (grid .entry)) most (now (weights .entry)) (now (targets .entry))
+        (now (matrix .entry)) (now (right .entry)) (now (out .entry))) 0 (now (matrix .exit)) (now (right .exit)) (now (out .exit)) (said r) ⌝ }
+{
+    let places = degrees.len() * size;
+    let list = cols * degrees.len();
+    let mut powers = [0u64; 64];
+    let mut exponents = [0u8; 320];
+    let mut values = [0u64; 16];
+    fit::fit_with(
+        weights,
+        targets,
+        degrees,
+        grid,
+        most,
+        size,
+        bitwidth,
+        &mut powers[..places],
+        &mut exponents[..list],
+        &mut values[..cols],
+        matrix,
+        right,
+        out,
+    )
+}
+
+// With room for 256 columns and 512 powers. It is for fits that are not small, so that its call of itself is never made: that call keeps the compiler from
+// laying the room out in the frame of the small ones.
+fn fit_large(
+    weights: &[u64],
+    targets: &[u64],
+    degrees: &[u8],
+    grid: &[u8],
+    most: u8,
+    cols: usize,
+    size: usize,
+    bitwidth: u32,
+    matrix: &mut [u64],
+    right: &mut [u64],
+    out: &mut [u64],
+) -> Number
+    requires { ⌜ Shaped bitwidth size (now degrees) (now grid) ⌝ }
+    requires { ⌜ Exact (fitWith bitwidth (now degrees) (now grid) most (now weights) (now targets) (now matrix) (now right) (now out)) cols ⌝ }
+    requires { ⌜ (cols ≤ 16 → 64 < length (now degrees) * size) ⌝ }
+    ensures { λ r. ⌜ Fitted (fitWith bitwidth (now (degrees .entry)) (now (grid .entry)) most (now (weights .entry)) (now (targets .entry))
+        (now (matrix .entry)) (now (right .entry)) (now (out .entry))) 0 (now (matrix .exit)) (now (right .exit)) (now (out .exit)) (said r) ⌝ }
+{
+    let places = degrees.len() * size;
+    let list = cols * degrees.len();
+    if cols <= 16 {
+        if places <= 64 {
+            let never = fit_large(
+                weights,
+                targets,
+                degrees,
+                grid,
+                most,
+                cols,
+                size,
+                bitwidth,
+                matrix,
+                right,
+                out,
+            );
+            tables::clear(out);
+            return never;
+        }
+    }
+    let mut powers = [0u64; 512];
+    let mut exponents = [0u8; 5120];
+    let mut values = [0u64; 256];
+    fit::fit_with(
+        weights,
+        targets,
+        degrees,
+        grid,
+        most,
+        size,
+        bitwidth,
+        &mut powers[..places],
+        &mut exponents[..list],
+        &mut values[..cols],
+        matrix,
+        right,
+        out,
+    )
+}
+
+// A fit whose tables have their exact lengths, with the room that it needs.
+pub(crate) fn fit_tables(
+    weights: &[u64],
+    targets: &[u64],
+    degrees: &[u8],
+    grid: &[u8],
+    most: u8,
+    cols: usize,
+    size: usize,
+    bitwidth: u32,
+    matrix: &mut [u64],
+    right: &mut [u64],
+    out: &mut [u64],
+) -> Number
+    requires { ⌜ Shaped bitwidth size (now degrees) (now grid) ⌝ }
+    requires { ⌜ Exact (fitWith bitwidth (now degrees) (now grid) most (now weights) (now targets) (now matrix) (now right) (now out)) cols ⌝ }
+    ensures { λ r. ⌜ Fitted (fitWith bitwidth (now (degrees .entry)) (now (grid .entry)) most (now (weights .entry)) (now (targets .entry))
+        (now (matrix .entry)) (now (right .entry)) (now (out .entry))) 0 (now (matrix .exit)) (now (right .exit)) (now (out .exit)) (said r) ⌝ }
+{
+    if 16 < cols {
+        return fit_large(
+            weights,
+            targets,
+            degrees,
+            grid,
+            most,
+            cols,
+            size,
+            bitwidth,
+            matrix,
+            right,
+            out,
+        );
+    }
+    if 64 < degrees.len() * size {
+        return fit_large(
+            weights,
+            targets,
+            degrees,
+            grid,
+            most,
+            cols,
+            size,
+            bitwidth,
+            matrix,
+            right,
+            out,
+        );
+    }
+    fit_small(
+        weights,
+        targets,
+        degrees,
+        grid,
+        most,
+        cols,
+        size,
+        bitwidth,
+        matrix,
+        right,
+        out,
+    )
+}
