@@ -6,6 +6,6 @@ pub mod NormalTables
 pub mod Calls
 pub mod CallLaws
 pub mod TableLaws
-pub mod FitLaws
+pub mod ByteFits
 pub mod FitDemands
 pub mod Passing

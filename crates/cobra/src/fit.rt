@@ -1,10 +1,9 @@
 // The weighted fit on tables of u64. What the call does is said in `weighted_poly_fit`.
-ghost use mathlib.Core.Path.{_≡_};
 ghost use Prim.Native.Nat.{min};
 ghost use Rattle.meaning.specs.Settings.{cube};
-ghost use Rattle.meaning.specs.Fit.{fitOf, fitReply, fitOut, fitMatrix, fitRight};
+ghost use Rattle.meaning.specs.Fit.{fitOf};
 ghost use Rattle.meaning.specs.Replies.{told};
-ghost use Rattle.weighted_poly_fit.specs.Fits.{Fits};
+ghost use Rattle.weighted_poly_fit.specs.Fits.{Called, Fits};
 
 // Fits a polynomial to weighted targets; `value` gets degree_used.
 #[no_mangle]
@@ -21,14 +20,9 @@ pub extern "C" fn cobra_recover_weighted_poly(
     out: &mut [u64],
     value: &mut u64,
 ) -> u32
-    ensures says { λ r. ⌜ told r (now (value .exit)) ≡ fitReply (fitOf total width (now (support .entry)) «max_degree» «grid_degree» (now (weights .entry))
-        (now (targets .entry)) (now (matrix .entry)) (now (right .entry)) (now (out .entry))) ⌝ }
-    ensures leaves { λ r. ⌜ (now (out .exit) ≡ fitOut (fitOf total width (now (support .entry)) «max_degree» «grid_degree» (now (weights .entry))
-        (now (targets .entry)) (now (matrix .entry)) (now (right .entry)) (now (out .entry))))
-        × (now (matrix .exit) ≡ fitMatrix (fitOf total width (now (support .entry)) «max_degree» «grid_degree» (now (weights .entry))
-        (now (targets .entry)) (now (matrix .entry)) (now (right .entry)) (now (out .entry))))
-        × (now (right .exit) ≡ fitRight (fitOf total width (now (support .entry)) «max_degree» «grid_degree» (now (weights .entry))
-        (now (targets .entry)) (now (matrix .entry)) (now (right .entry)) (now (out .entry)))) ⌝ }
+    ensures calls { λ r. ⌜ Called (fitOf total width (now (support .entry)) «max_degree» «grid_degree» (now (weights .entry)) (now (targets .entry))
+        (now (matrix .entry)) (now (right .entry)) (now (out .entry))) (now (matrix .exit)) (now (right .exit)) (now (out .exit))
+        (told r (now (value .exit))) ⌝ }
     ensures fits { λ r. ⌜ Fits width (cube (now (support .entry)) (min «max_degree» «grid_degree»)) (cube (now (support .entry)) «grid_degree») «max_degree»
         (now (weights .entry)) (now (targets .entry)) r (now (value .exit)) (now (out .exit)) ⌝ }
 {

@@ -18,7 +18,8 @@ use Rattle.meaning.specs.Fit.{fitCause, fitState, fitSucceeds, fitAnswer, fitNu
 use Rattle.answers.specs.declared.Refusal.{Refusal}
 use Rattle.answers.specs.Said.{code}
 use Rattle.answers.specs.Laws.{reply-code, first-code, left-code}
-use Rattle.weighted_poly_fit.specs.Fitting.{Answered, Exact, Fitted, Called, fitWith, fitLengths, tableCause}
+use Rattle.weighted_poly_fit.specs.Fitting.{Answered, Exact, Fitted, fitWith, fitLengths, tableCause}
+use Rattle.weighted_poly_fit.specs.Fits.{Called}
 use Rattle.weighted_poly_fit.proofs.ColumnCount.{columns-le-cells}
 
 -- ---- sizes

@@ -1,5 +1,5 @@
--- What holds of an accepted fit: of its settings and tables, of the number and the degree that it returns, and of the output at the end. No step of the
--- elimination is named.
+-- What a call of the fit returns and leaves, and what holds of an accepted fit: of its settings and tables, of the number and the degree that it returns,
+-- and of the output at the end. No step of the elimination is named.
 use mathlib.Core.Path.{_≡_}
 use mathlib.Core.Logic.{_⊎_}
 use Prim.Native.Nat.{ℕ, _*_, _%_, _^_, _≤_, _<_}
@@ -7,8 +7,13 @@ use mathlib.Core.List.{List, map}
 use lib.IntN.{pos}
 use Rattle.meaning.specs.Tables.{at}
 use Rattle.meaning.specs.Boxes.{cells, digits}
-use Rattle.meaning.specs.Fit.{total}
+use Rattle.meaning.specs.Replies.{Reply}
+use Rattle.meaning.specs.Fit.{total, Fit, fitReply, fitOut, fitMatrix, fitRight}
 use Rattle.demand3.specs.Words.{boxValue, NormalForm}
+
+-- the call of the fit f: its reply r, and the tables at the end
+abbrev pub Called : Fit → List ℕ → List ℕ → List ℕ → Reply → Type 0
+Called f matrix right out r = (r ≡ fitReply f) × ((out ≡ fitOut f) × (matrix ≡ fitMatrix f) × (right ≡ fitRight f))
 
 -- a coefficient of the box c that is not 0 and whose exponents sum to `degree`
 pub record Reached (ds c : List ℕ) (degree : ℕ) : Type 0 where

@@ -11,7 +11,7 @@ use Rattle.meaning.specs.Replies.{Reply}
 use Rattle.meaning.specs.Settings.{widthFits, first}
 use Rattle.meaning.specs.Calls.{reply, left}
 use Rattle.meaning.specs.Elimination.{eliminated, substituted, succeeds}
-use Rattle.meaning.specs.Fit.{fitBox, degreeUsed, Fit, fitRows, fitColumns, fitSucceeds, fitAnswer, fitReply, fitOut, fitMatrix, fitRight}
+use Rattle.meaning.specs.Fit.{fitBox, degreeUsed, Fit, fitRows, fitColumns, fitSucceeds, fitAnswer}
 
 -- ---- the system
 
@@ -93,7 +93,3 @@ pub record Fitted (f : Fit) (cause : ℕ) (matrix right out : List ℕ) (r : Rep
   pub leaves-out : out ≡ left cause (cond (fitSucceeds f) (fitAnswer f) (tabulate (cells (f .degrees)) (λ n. 0))) (f .out)
   pub leaves-matrix : matrix ≡ left cause (tabulate (length (f .matrix)) (λ n. 0)) (f .matrix)
   pub leaves-right : right ≡ left cause (tabulate (length (f .right)) (λ n. 0)) (f .right)
-
--- the whole call: its reply r and the tables at the end
-abbrev pub Called : Fit → List ℕ → List ℕ → List ℕ → Reply → Type 0
-Called f matrix right out r = (r ≡ fitReply f) × ((out ≡ fitOut f) × (matrix ≡ fitMatrix f) × (right ≡ fitRight f))

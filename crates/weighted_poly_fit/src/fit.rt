@@ -6,9 +6,9 @@ ghost use lib.Dec.{eqb};
 ghost use lib.ListN.{length};
 ghost use Rattle.meaning.specs.Boxes.{cells};
 ghost use Rattle.meaning.specs.Settings.{cube};
-ghost use Rattle.meaning.specs.Fit.{fitOf, fitReply, fitOut, fitMatrix, fitRight};
-ghost use Rattle.weighted_poly_fit.specs.Fitting.{Shaped, Exact, Fitted, Called, fitWith, tableCause};
-ghost use Rattle.weighted_poly_fit.specs.Fits.{Fits};
+ghost use Rattle.meaning.specs.Fit.{fitOf};
+ghost use Rattle.weighted_poly_fit.specs.Fitting.{Shaped, Exact, Fitted, fitWith, tableCause};
+ghost use Rattle.weighted_poly_fit.specs.Fits.{Called, Fits};
 ghost use Rattle.answers.specs.Said.{said};
 use crate::columns;
 use crate::rooms;
@@ -209,14 +209,8 @@ pub fn recover_weighted_poly(
     right: &mut [u64],
     out: &mut [u64],
 ) -> Number
-    ensures says { λ r. ⌜ said r ≡ fitReply (fitOf total bitwidth (now (support .entry)) «max_degree» «grid_degree» (now (weights .entry))
-        (now (targets .entry)) (now (matrix .entry)) (now (right .entry)) (now (out .entry))) ⌝ }
-    ensures leaves { λ r. ⌜ (now (out .exit) ≡ fitOut (fitOf total bitwidth (now (support .entry)) «max_degree» «grid_degree» (now (weights .entry))
-        (now (targets .entry)) (now (matrix .entry)) (now (right .entry)) (now (out .entry))))
-        × (now (matrix .exit) ≡ fitMatrix (fitOf total bitwidth (now (support .entry)) «max_degree» «grid_degree» (now (weights .entry))
-        (now (targets .entry)) (now (matrix .entry)) (now (right .entry)) (now (out .entry))))
-        × (now (right .exit) ≡ fitRight (fitOf total bitwidth (now (support .entry)) «max_degree» «grid_degree» (now (weights .entry))
-        (now (targets .entry)) (now (matrix .entry)) (now (right .entry)) (now (out .entry)))) ⌝ }
+    ensures calls { λ r. ⌜ Called (fitOf total bitwidth (now (support .entry)) «max_degree» «grid_degree» (now (weights .entry)) (now (targets .entry))
+        (now (matrix .entry)) (now (right .entry)) (now (out .entry))) (now (matrix .exit)) (now (right .exit)) (now (out .exit)) (said r) ⌝ }
     ensures fits { λ r. ⌜ Fits bitwidth (cube (now (support .entry)) (min «max_degree» «grid_degree»)) (cube (now (support .entry)) «grid_degree») «max_degree»
         (now (weights .entry)) (now (targets .entry)) (said r .number) (said r .value) (now (out .exit)) ⌝ }
 {

@@ -1,5 +1,4 @@
 // The room that a fit needs besides its lent tables, in two sizes: a point's powers, the exponents and the values of the columns.
-ghost use mathlib.Core.Path.{_≡_};
 ghost use Prim.Native.Nat.{_*_, _≤_, _<_};
 ghost use lib.ListN.{length};
 ghost use Rattle.weighted_poly_fit.specs.Fitting.{Shaped, Exact, Fitted, fitWith};

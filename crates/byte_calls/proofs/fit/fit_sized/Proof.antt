@@ -21,7 +21,7 @@ use Rattle.byte_calls.specs.Bytes.{decoded}
 use Rattle.byte_calls.specs.ByteLaws.{length-decoded}
 use Rattle.byte_calls.specs.Calls.{holds, fitHeld}
 use Rattle.byte_calls.specs.TableLaws.{length-zeros}
-use Rattle.byte_calls.specs.FitLaws.{fit-large, fit-lengths, fit-done}
+use Rattle.byte_calls.specs.ByteFits.{fit-large, fit-lengths, fit-done}
 use Rattle.byte_calls.proofs.fit.fit_sized.Tie as tie
 
 -- the fit that is asked for

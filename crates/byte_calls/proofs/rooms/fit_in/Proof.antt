@@ -44,4 +44,4 @@ fit-in-spec =
     (λ c.
     let r = c .before .before .before .before .before .before .before .before .before .before .before in
     let e = r .recover-weighted-poly .ensures in
-    (e .0 ∙ ap fitReply (held r), c .before .before .encode .ensures ∙ ap encoded (e .1 .0 .0 ∙ ap fitOut (held r)))))
+    (e .0 .0 ∙ ap fitReply (held r), c .before .before .encode .ensures ∙ ap encoded (e .0 .1 .0 ∙ ap fitOut (held r)))))

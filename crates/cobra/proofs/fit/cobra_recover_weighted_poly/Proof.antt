@@ -13,5 +13,5 @@ cobra-recover-weighted-poly-spec =
     (λ c κs. search needs) (λ c κs. search needs) (λ c. search needs) (λ c. search needs) (λ c. search needs)
     (λ c.
     let e = c .before .before .before .before .before .before .before .before .recover-weighted-poly .ensures in
-    let says = c .deliver .ensures ∙ e .0 in
-    (says, (e .1 .0, fits-of-call _ _ _ _ _ _ _ _ _ _ says (e .1 .0 .0)))))
+    let says = c .deliver .ensures ∙ e .0 .0 in
+    ((says, e .0 .1), fits-of-call _ _ _ _ _ _ _ _ _ _ says (e .0 .1 .0))))

@@ -1,9 +1,8 @@
 -- The loop: whatever state the tables showed at first, they show it after `column` steps of the elimination; the measure is the columns left.
 use Rattle.two_adic_solver.proofs.elimination.eliminate.Statement.{statement}
-use mathlib.Core.Path.{_≡_, sym, ap, _∙_}
+use mathlib.Core.Path.{sym, ap, _∙_}
 use native.Mathlib.Omega.{arith}
 use Prim.Native.Nat.{_-_, _*_}
-use lib.ListN.{length}
 use Rattle.two_adic_solver.proofs.ColumnLaws.{Passed, passed-start, passed-step, passed-done}
 use borrow.Author.Needs.{needs}
 use Rattle.two_adic_solver.proofs.elimination.eliminate.Tie as tie

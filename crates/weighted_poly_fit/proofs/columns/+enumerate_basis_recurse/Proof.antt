@@ -1,5 +1,5 @@
 -- The measure is the number of variables that remain. The loop walks over the exponents of the first of them.
-use mathlib.Core.Path.{_≡_, refl, ap}
+use mathlib.Core.Path.{refl, ap}
 use Prim.Native.Nat.{ℕ, _+_, _-_, _<_}
 use native.Mathlib.Omega.{arith}
 use borrow.Author.Needs.{needs}
@@ -39,19 +39,24 @@ abbrev μ-loop : lts.MeasureT-loop
 μ-loop table₀ at current₀ degrees left place highest next₀ e₀ table current next e = highest + 1 - e
 
 -- the start, the list that is written at the end of the recursion, the loop's bound, the turn, and its call
-abbrev start : (t : ℕ) → lts.After-shared-slice-known (claims t) (entry t) reads.Post Inv-loop μ-loop → lts.Start (claims t) (entry t) reads.Post Inv-loop μ-loop
+abbrev start : (t : ℕ) → lts.After-shared-slice-known (claims t) (entry t) reads.Post Inv-loop μ-loop
+    → lts.Start (claims t) (entry t) reads.Post Inv-loop μ-loop
 start t c = c .before .before .before
 
-abbrev last : (t : ℕ) → lts.After-write-list (claims t) (entry t) reads.Post Inv-loop μ-loop → lts.Then2 (claims t) (entry t) reads.Post Inv-loop μ-loop
+abbrev last : (t : ℕ) → lts.After-write-list (claims t) (entry t) reads.Post Inv-loop μ-loop
+    → lts.Then2 (claims t) (entry t) reads.Post Inv-loop μ-loop
 last t c = c .before .before .before
 
-abbrev bound : (t : ℕ) → lts.At-loop (claims t) (entry t) reads.Post Inv-loop μ-loop → lts.After-shared-slice-known2 (claims t) (entry t) reads.Post Inv-loop μ-loop
+abbrev bound : (t : ℕ) → lts.At-loop (claims t) (entry t) reads.Post Inv-loop μ-loop
+    → lts.After-shared-slice-known2 (claims t) (entry t) reads.Post Inv-loop μ-loop
 bound t c = c .before .before
 
-abbrev turn : (t : ℕ) → lts.After-enumerate-basis-recurse-arg3 (claims t) (entry t) reads.Post Inv-loop μ-loop → lts.In-loop (claims t) (entry t) reads.Post Inv-loop μ-loop
+abbrev turn : (t : ℕ) → lts.After-enumerate-basis-recurse-arg3 (claims t) (entry t) reads.Post Inv-loop μ-loop
+    → lts.In-loop (claims t) (entry t) reads.Post Inv-loop μ-loop
 turn t c = c .before .before .before
 
-abbrev called : (t : ℕ) → lts.After-slice-known5 (claims t) (entry t) reads.Post Inv-loop μ-loop → lts.After-enumerate-basis-recurse (claims t) (entry t) reads.Post Inv-loop μ-loop
+abbrev called : (t : ℕ) → lts.After-slice-known5 (claims t) (entry t) reads.Post Inv-loop μ-loop
+    → lts.After-enumerate-basis-recurse (claims t) (entry t) reads.Post Inv-loop μ-loop
 called t c = c .before .before .before .before
 
 pub +enumerate-basis-recurse-spec : {M : Type 1} → statement M

@@ -11,4 +11,4 @@ recover-weighted-poly-spec =
     (λ c κs. search needs) (λ c. search needs) (λ c. search needs) (λ c. search needs)
     (λ c.
     let e = c .before .before .before .before .before .before .weighted-fit .ensures in
-    (e .0, (e .1, fits-of-call _ _ _ _ _ _ _ _ _ _ (e .0) (e .1 .0)))))
+    (e, fits-of-call _ _ _ _ _ _ _ _ _ _ (e .0) (e .1 .0))))

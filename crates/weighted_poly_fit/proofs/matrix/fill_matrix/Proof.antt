@@ -1,6 +1,6 @@
 -- The loop fills one row after the other.
 use Rattle.weighted_poly_fit.proofs.matrix.fill_matrix.Statement.{statement}
-use Prim.Native.Nat.{ℕ, _+_, _*_, _-_, _≤_}
+use Prim.Native.Nat.{_+_, _*_, _-_, _≤_}
 use native.Mathlib.Omega.{arith}
 use native.Mathlib.Nat.{le-of-eq}
 use mathlib.Core.Path.{_≡_, sym, _∙_, ap}
