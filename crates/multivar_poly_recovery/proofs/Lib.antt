@@ -1,8 +1,9 @@
--- Laws of the extraction, from a cell to the whole box, and of recovery's steps on a table (WordDifferences).
+-- Laws of the extraction, from a cell to the whole box, and of recovery's steps on a table (Multiples, WordDifferences).
 pub mod Cells
 pub mod Rows
 pub mod Added
 pub mod RowTables
 pub mod SubBoxes
 pub mod Whole
+pub mod Multiples
 pub mod WordDifferences
