@@ -2,7 +2,7 @@
 -- middle of, so that no bound on the number of passes is needed before the end.
 use mathlib.Core.Path.{_≡_, refl, _∙_}
 use Prim.Native.Nat.{ℕ, suc, _+_, _*_, _-_, _^_, _≤_, _<_}
-use native.Mathlib.Nat.{le-refl, le-of-suc-le-suc, le-of-mul-le-mul-left}
+use native.Mathlib.Nat.{le-refl, le-add-right, le-of-suc-le-suc, le-of-mul-le-mul-left, lt-of-mul-lt-mul-left, mul-le-mul-left}
 use native.Mathlib.Omega.{arith}
 use mathlib.Core.List.{List}
 use lib.ListN.{length, set, length-set}
@@ -10,7 +10,8 @@ use Rattle.meaning.specs.Tables.{tabulate, at}
 use Rattle.meaning.specs.Differences.{minus, newton}
 use Rattle.lines.specs.FlatTables.{lined}
 use Rattle.theory.specs.Tables.{eq-tabulate}
-use Rattle.lines.specs.InPlace.{NewtonPassed, NewtonPass, newton-start, newton-pass-start, newton-pass-step, newton-pass-done, newton-done}
+use Rattle.lines.specs.InPlace.{ZeroFrom, NewtonPassed, NewtonPass, newton-start, newton-pass-start, newton-pass-step, newton-pass-done, newton-done}
+use Rattle.lines.proofs.NothingLeft.{stays}
 
 -- ---- one pass
 
@@ -52,6 +53,12 @@ PassDone stride low t t′ =
     (d p : ℕ) (f : ℕ → ℕ) → low ≡ stride * suc p → NewtonPassed (2 ^ 64) stride d f (length t) p t
     → NewtonPassed (2 ^ 64) stride d f (length t) (suc p) t′
 
+-- and two at once
+abbrev pub PairDone : ℕ → ℕ → List ℕ → List ℕ → Type 0
+PairDone stride low t t′ =
+    (d p : ℕ) (f : ℕ → ℕ) → low ≡ stride * suc p → NewtonPassed (2 ^ 64) stride d f (length t) p t
+    → NewtonPassed (2 ^ 64) stride d f (length t) (suc (suc p)) t′
+
 -- the next pass ends at place `low`
 pub record Passes (stride d : ℕ) (t₀ t : List ℕ) (low : ℕ) : Type 0 where
   pub count : ℕ
@@ -73,10 +80,26 @@ module _ (stride d : ℕ) (t₀ : List ℕ) where
     same : length t ≡ length t₀
     same = r .passed .shows .same
 
-    pub passes-step : (t′ : List ℕ) → low < length t → PassDone stride low t t′ → Passes stride d t₀ t′ (low + stride)
-    passes-step t′ h done =
+    -- there is room for one index more
+    pub passes-room : low < length t → low + stride ≤ length t
+    passes-room h =
+        let more : suc (r .count) < suc d = lt-of-mul-lt-mul-left stride (rw (← r .place, ← whole, ← same) h) in
+        omega (arith, r .place, whole, same, mul-le-mul-left stride more)
+
+    -- one pass, and two at once
+    pub passes-step : (t′ : List ℕ) → PassDone stride low t t′ → Passes stride d t₀ t′ (low + stride)
+    passes-step t′ done =
         record {
           count = suc (r .count);
+          place = omega (arith, r .place);
+          above = omega arith;
+          passed = rw same at (done d (r .count) (at t₀) (r .place) (rw same (r .passed)));
+        }
+
+    pub passes-pair : (t′ : List ℕ) → PairDone stride low t t′ → Passes stride d t₀ t′ (low + (stride + stride))
+    passes-pair t′ done =
+        record {
+          count = suc (suc (r .count));
           place = omega (arith, r .place);
           above = omega arith;
           passed = rw same at (done d (r .count) (at t₀) (r .place) (rw same (r .passed)));
@@ -86,4 +109,11 @@ module _ (stride d : ℕ) (t₀ : List ℕ) where
     passes-done h =
         let enough : d ≤ r .count = le-of-suc-le-suc (le-of-mul-le-mul-left (rw (← r .place, ← whole, ← same) h) pos) in
         let shown = newton-done pos whole enough (r .passed) in
+        eq-tabulate t (length t₀) _ (shown .same) (shown .entry)
+
+    -- where the last pass left only zeros, the others change nothing
+    pub passes-stop : ZeroFrom (low - stride) t → t ≡ tabulate (length t₀) (lined (newton (2 ^ 64)) stride d (at t₀))
+    passes-stop zeros =
+        let start : low - stride ≡ stride * r .count = omega (arith, r .place) in
+        let shown = newton-done pos whole (le-add-right d (r .count)) (stays pos d (rw start at zeros) (r .passed)) in
         eq-tabulate t (length t₀) _ (shown .same) (shown .entry)

@@ -3,7 +3,7 @@
 use mathlib.Core.Path.{_≡_, refl, sym, ap, ap₂, _∙_}
 use mathlib.Core.List.{List}
 use Prim.Native.Nat.{ℕ, suc, _+_, _*_, _-_, _^_, _≤_, _<_}
-use native.Mathlib.Nat.{le-refl, le-trans, lt-irrefl, lt-of-lt-of-le}
+use native.Mathlib.Nat.{le-refl, le-add-right, le-trans, lt-irrefl, lt-of-lt-of-le}
 use native.Mathlib.Numerals.{add-one}
 use native.Mathlib.Omega.{arith}
 use lib.ListN.{length, set, length-set}
@@ -13,7 +13,8 @@ use Rattle.lines.specs.FlatTables.{lined}
 use Rattle.theory.specs.Tables.{eq-tabulate}
 use Rattle.theory.specs.Congruence.{minus-lt}
 use Rattle.theory.specs.StepLaws.{minus-none}
-use Rattle.lines.specs.InPlace.{Shows, Parted, parted-up, shows-low, differenced, lined-differenced, lined-kept, NewtonPassed, newton-start, newton-done}
+use Rattle.lines.specs.InPlace.{ZeroFrom, Shows, Parted, parted-up, shows-low, differenced, lined-differenced, lined-kept, NewtonPassed, newton-start, newton-done}
+use Rattle.lines.proofs.NothingLeft.{stays}
 
 -- index j of the line f after q passes
 abbrev pub after : ℕ → ℕ → (ℕ → ℕ) → ℕ → ℕ
@@ -147,6 +148,14 @@ module _ (t₀ : List ℕ) where
       → t ≡ tabulate (length t₀) (lined (newton (2 ^ 64)) 1 d (at t₀))
   pairs-done t low r h d whole =
       let shown = newton-done (omega arith) (omega (arith, whole)) (omega (arith, h, whole, r .same, r .place)) (r .passed d) in
+      eq-tabulate t (length t₀) _ (shown .same) (shown .entry)
+
+  -- where the last pass left only zeros, the others change nothing
+  pub pairs-stop : (t : List ℕ) (low : ℕ) → Pairs t₀ t low → ZeroFrom (low - 1) t → (d : ℕ) → length t₀ ≡ suc d
+      → t ≡ tabulate (length t₀) (lined (newton (2 ^ 64)) 1 d (at t₀))
+  pairs-stop t low r zeros d whole =
+      let start : low - 1 ≡ 1 * r .count = omega (arith, r .place) in
+      let shown = newton-done (omega arith) (omega (arith, whole)) (le-add-right d (r .count)) (stays (omega arith) d (rw start at zeros) (r .passed d)) in
       eq-tabulate t (length t₀) _ (shown .same) (shown .entry)
 
 -- a block of stride 1 is a single line

@@ -168,6 +168,10 @@ pub lined-kept : (m s p d : ℕ) (f : ℕ → ℕ) (i : ℕ) → 0 < s → i < s
 unfolding lined
 lined-kept m s p d f i pos h = differenced-keep m p d _ (i / s) (le-of-suc-le-suc (index-lt s pos (suc p) i h))
 
+-- the table is 0 from a place on
+abbrev pub ZeroFrom : ℕ → List ℕ → Type 0
+ZeroFrom from t = (i : ℕ) → from ≤ i → i < length t → at t i ≡ 0
+
 -- a block of n numbers, f at the start, after p passes
 pub record NewtonPassed (m s d : ℕ) (f : ℕ → ℕ) (n p : ℕ) (t : List ℕ) : Type 0 where
   pub shows : Shows (lined (differenced m p) s d f) n t

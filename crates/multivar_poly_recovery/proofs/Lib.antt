@@ -1,4 +1,4 @@
--- Laws of the extraction, from a cell to the whole box, and of recovery's steps on a table (WordDifferences).
+-- Laws of the extraction, from a cell to the whole box, and of recovery's steps on a table (Multiples, WordDifferences).
 pub mod CellFactors
 pub mod Cells
 pub mod Rows
@@ -6,4 +6,5 @@ pub mod Added
 pub mod RowTables
 pub mod SubBoxes
 pub mod Whole
+pub mod Multiples
 pub mod WordDifferences

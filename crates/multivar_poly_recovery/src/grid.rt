@@ -1,7 +1,7 @@
-// Recovery on lent tables: settings and lengths, then differences and extraction.
+// Recovery on lent tables: settings and lengths, then differences, of the values in the high bits of their words, and extraction.
 ghost use mathlib.Core.Path.{_≡_};
 ghost use mathlib.Core.Bool.{cond};
-ghost use Prim.Native.Nat.{_≤_};
+ghost use Prim.Native.Nat.{_≤_, _<_};
 ghost use lib.ListN.{length};
 ghost use Rattle.meaning.specs.Tables.{tabulate};
 ghost use Rattle.meaning.specs.Boxes.{cells};
@@ -10,19 +10,22 @@ ghost use Rattle.meaning.specs.Settings.{cube};
 ghost use Rattle.meaning.specs.Calls.{recoveryNumber, recoveryLeft};
 ghost use Rattle.answers.specs.Said.{saidNumber};
 use crate::extraction;
+use crate::shifts;
 use answers::Outcome;
 use answers::Refusal;
 use lines::Transform;
 
 // The coefficients of the box of `degrees`, or 6 and zeros.
 fn recover_from_grid(values: &[u64], degrees: &[u8], bitwidth: u32, out: &mut [u64]) -> Outcome
-    requires { ⌜ (length (now values) ≡ cells (now degrees)) × (length (now out) ≡ cells (now degrees)) × (bitwidth ≤ 64) ⌝ }
+    requires { ⌜ (length (now values) ≡ cells (now degrees)) × (length (now out) ≡ cells (now degrees)) × (0 < bitwidth) × (bitwidth ≤ 64) ⌝ }
     ensures says { λ r. ⌜ saidNumber r ≡ cond (accepts bitwidth (now (degrees .entry)) (now (values .entry))) 0 6 ⌝ }
     ensures leaves { λ r. ⌜ now (out .exit) ≡ cond (accepts bitwidth (now (degrees .entry)) (now (values .entry)))
         (answer bitwidth (now (degrees .entry)) (now (values .entry))) (tabulate (cells (now (degrees .entry))) (λ n. 0)) ⌝ }
 {
-    tables::copy(values, out);
+    let high = 64 - bitwidth;
+    shifts::raise(values, out, high);
     lines::transform_all(Transform::Differences, out, degrees);
+    shifts::lower(out, high);
     let inverses = math_utils::odd_factors::odd_factorial_inverses();
     if extraction::extract(out, degrees, bitwidth, &inverses) {
         return Outcome::Accepted;

@@ -8,6 +8,7 @@ ghost use Rattle.answers.specs.Said.{saidNumber};
 
 mod extraction;
 mod grid;
+mod shifts;
 
 use answers::Outcome;
 

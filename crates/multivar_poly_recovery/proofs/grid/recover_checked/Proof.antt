@@ -4,6 +4,7 @@ use mathlib.Core.Path.{_≡_, sym, _∙_, ap}
 use mathlib.Core.List.{List}
 use mathlib.Core.Bool.{true, cond}
 use Prim.Native.Nat.{ℕ}
+use native.Mathlib.Omega.{arith}
 use lib.Seq.{length-take-le}
 use denote.Ref.{now}
 use Rattle.meaning.specs.Tables.{tabulate}
@@ -13,6 +14,7 @@ use Rattle.meaning.specs.Settings.{cube, first}
 use Rattle.meaning.specs.Calls.{inOutNumber, recoveryNumber, recoveryLeft, left}
 use Rattle.settings.specs.Causes.{take-cube, ready-passes, ready-high}
 use Rattle.theory.specs.AcceptedCalls.{Ready, ready}
+use Rattle.theory.specs.Ranges.{width-pos}
 use Rattle.answers.specs.Said.{saidNumber}
 use Rattle.answers.specs.Laws.{first-code, left-code}
 use Rattle.multivar_poly_recovery.proofs.grid.recover_checked.Statement.{statement}
@@ -53,7 +55,8 @@ recover-from-grid-requires c κs =
     let r = ok (c .before .before) in
     let k = c .before .before .before .before .before .before .before .before .before .args in
     let e = sym (take-cube (now (k .support)) (k .max-degree) (ready-passes r .short)) in
-    (r .given-length ∙ ap cells e, r .out-length ∙ ap cells e, ready-high r)
+    let low = width-pos (k .bitwidth) (ready-passes r .width) in
+    (r .given-length ∙ ap cells e, r .out-length ∙ ap cells e, omega (arith, low), ready-high r)
 
 same-length : tie.Need-same-length
 same-length c = search needs

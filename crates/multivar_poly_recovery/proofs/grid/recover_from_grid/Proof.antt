@@ -1,69 +1,58 @@
--- Copy, differences modulo 2^64 and extraction are recovery's steps: `recovered-of-steps` gives verdict and table for both returns.
+-- Values moved up, differences modulo 2^64, moved down, and extraction are recovery's steps: `recovered-of-steps` gives verdict and table for both returns.
 use borrow.Author.Needs.{needs}
 use mathlib.Core.Path.{_≡_, sym, _∙_, ap}
 use mathlib.Core.Bool.{Bool, cond}
-use borrow.Author.Tests.{eq-eqb}
+use mathlib.Core.List.{List}
+use Prim.Native.Nat.{ℕ, _*_, _-_, _%_, _^_}
+use native.Mathlib.Omega.{arith}
+use lib.ListN.{length}
 use denote.Ref.{now}
-use Rattle.meaning.specs.Tables.{tabulate}
+use Rattle.meaning.specs.Tables.{tabulate, at}
 use Rattle.meaning.specs.Boxes.{cells}
 use Rattle.meaning.specs.Recovery.{accepts, answer}
 use Rattle.multivar_poly_recovery.proofs.WordDifferences.{recovered-of-steps}
 use Rattle.multivar_poly_recovery.proofs.grid.recover_from_grid.Statement.{statement}
 use Rattle.multivar_poly_recovery.proofs.grid.recover_from_grid.Tie as tie
 
-copy-requires : tie.Need-copy-requires
-copy-requires c κs = search needs
+-- the steps, from the last one back to the start
+abbrev lowered : tie.After-extract → tie.After-lower
+lowered c = c .before .before .before .before .before .before
 
-transform-all-requires : tie.Need-transform-all-requires
-transform-all-requires c κs = search needs
+abbrev differenced : tie.After-lower → tie.After-transform-all
+differenced c = c .before .before .before .before
 
-odd-factorial-inverses-requires : tie.Need-odd-factorial-inverses-requires
-odd-factorial-inverses-requires c κs = search needs
+abbrev raised : tie.After-transform-all → tie.After-raise
+raised c = c .before .before .before .before
 
-extract-requires : tie.Need-extract-requires
-extract-requires c κs = search needs
-
-same-length : tie.Need-same-length
-same-length c = search needs
+abbrev start : tie.After-raise → tie.Start
+start c = c .before .before .before .before .before
 
 -- the table goes through recovery's steps
-steps : (c : tie.After-slice-known4) →
-    let x = c .before .before in
-    let k = x .before .before .before .before .before .before .before .before .before .before .before .before .before .before .before .args in
-    (x .extract .result ≡ accepts (k .bitwidth) (now (k .degrees)) (now (k .values)))
-    × (x .extract .last .0 ≡ cond (accepts (k .bitwidth) (now (k .degrees)) (now (k .values))) (answer (k .bitwidth) (now (k .degrees)) (now (k .values)))
+steps : (c : tie.After-extract) →
+    let k = start (raised (differenced (lowered c))) .args in
+    (c .extract .result ≡ accepts (k .bitwidth) (now (k .degrees)) (now (k .values)))
+    × (c .extract .last .0 ≡ cond (accepts (k .bitwidth) (now (k .degrees)) (now (k .values))) (answer (k .bitwidth) (now (k .degrees)) (now (k .values)))
     (tabulate (cells (now (k .degrees))) (λ n. 0)))
 steps c =
-    let x = c .before .before in
-    let d = x .before .before .before .before .before .before in
-    let y = d .before .before .before .before in
-    let b = y .before .before .before .before .before in
-    let p = b .pre in
-    recovered-of-steps (b .args .bitwidth) (now (b .args .degrees)) (now (b .args .values)) _ _ _ _ (p .2) (p .0)
-    (y .copy .ensures ∙ simp (eq-eqb _ _ (p .0 ∙ sym (p .1)))) (d .transform-all .ensures) (x .extract .ensures .0) (x .extract .ensures .1)
-
-returns : tie.Need-returns
-returns c =
-    let s = steps (c .before) in
-    (ap (λ (b : Bool). cond b 0 6) (sym (c .if1 .taken) ∙ s .0), s .1)
-
-same-length-2 : tie.Need-same-length-2
-same-length-2 c = search needs
-
-returns-2 : tie.Need-returns-2
-returns-2 c =
-    let s = steps (c .before) in
-    (ap (λ (b : Bool). cond b 0 6) (sym (c .if1 .left) ∙ s .0), s .1)
+    let low = lowered c in
+    let done = differenced low in
+    let up = raised done in
+    let s = start up in
+    let k = s .args in
+    let e : length (now (k .out)) ≡ length (now (k .values)) = s .pre .1 ∙ sym (s .pre .0) in
+    recovered-of-steps (k .bitwidth) (now (k .degrees)) (now (k .values)) (s .pre .3) (s .pre .0) _ _ _ _ _
+    (up .raise .ensures ∙ ap (λ (n : ℕ). tabulate n (λ i. (at (now (k .values)) i * 2 ^ (64 - k .bitwidth)) % 2 ^ 64)) e)
+    (done .transform-all .ensures) (low .lower .ensures) (c .extract .ensures .0) (c .extract .ensures .1)
 
 pub recover-from-grid-spec : {M : Type 1} → statement M
 recover-from-grid-spec =
     tie.close
     (tie.spec
-    copy-requires
-    transform-all-requires
-    odd-factorial-inverses-requires
-    extract-requires
-    same-length
-    returns
-    same-length-2
-    returns-2)
+    (λ c. search needs)
+    (λ c κs. let p = c .before .before .before .before .pre in (omega (arith, p .2), p .0 ∙ sym (p .1)))
+    (λ c κs. search needs)
+    (λ c κs. let p = start (raised (c .before .before .before)) .pre in omega (arith, p .2))
+    (λ c κs. search needs) (λ c κs. search needs) (λ c. search needs)
+    (λ c. let s = steps (c .before .before .before) in (ap (λ (b : Bool). cond b 0 6) (sym (c .if1 .taken) ∙ s .0), s .1))
+    (λ c. search needs)
+    (λ c. let s = steps (c .before .before .before) in (ap (λ (b : Bool). cond b 0 6) (sym (c .if1 .left) ∙ s .0), s .1)))
