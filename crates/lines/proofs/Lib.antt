@@ -6,5 +6,6 @@ pub mod NothingLeft
 pub mod Passes
 pub mod PairPasses
 pub mod TwoPasses
+pub mod Neighbours
 pub mod DivisionPasses
 pub mod BoxSizes
