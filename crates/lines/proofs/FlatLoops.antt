@@ -4,7 +4,7 @@
 use mathlib.Core.Path.{_≡_, refl, sym, _∙_, ap, fun-ext}
 use mathlib.Core.List.{List, [], _∷_}
 use Prim.Native.Nat.{ℕ, suc, _+_, _*_, _-_, _%_, _≤_, _<_, zero-le}
-use native.Mathlib.Nat.{zero-lt-suc, zero-add, add-zero, mul-pos, mul-comm, mul-one, mul-mod-left}
+use native.Mathlib.Nat.{lt-irrefl, zero-lt-suc, zero-add, add-zero, mul-pos, mul-comm, mul-one, mul-mod-left}
 use native.Mathlib.Numerals.{add-one}
 use native.Mathlib.Omega.{arith}
 use lib.Arith.{digits-mod}
@@ -24,13 +24,13 @@ pub record Blocks (line : Line) (s d : ℕ) (t₀ t : List ℕ) (from : ℕ) : T
   pub within : from ≤ length t
   pub filled : Filled (blocked line s d (at t₀)) t₀ t from
 
--- the variables before variable i are done, and the next one has stride s
-pub record Variables (lines : ℕ → Line) (ds t₀ t : List ℕ) (i s : ℕ) : Type 0 where
+-- the variables before variable i are done, and the next one has stride s: the others, done to the table as it is, give n numbers of `goal`
+pub record Variables (lines : ℕ → Line) (ds : List ℕ) (goal : ℕ → ℕ) (n : ℕ) (t : List ℕ) (i s : ℕ) : Type 0 where
   pub within : i ≤ length ds
   pub pos : 0 < s
-  pub same : length t ≡ length t₀
+  pub same : length t ≡ n
   pub whole : length t ≡ s * cells (drop i ds)
-  pub left : (j : ℕ) → boxed lines ds (at t₀) j ≡ strided (λ l. lines (i + l)) s (drop i ds) (at t) j
+  pub left : (j : ℕ) → goal j ≡ strided (λ l. lines (i + l)) s (drop i ds) (at t) j
 
 module _ (line : Line) (local : Local line) where
   module _ (s d : ℕ) (t₀ : List ℕ) where
@@ -83,19 +83,14 @@ module _ (line : Line) (local : Local line) where
           let z : length t - from ≡ 0 = sym (digits-mod (r .count) h) ∙ ap (_% (s * suc d)) (sym e) ∙ whole in
           filled-done _ t₀ t from (r .filled) (omega (arith, r .place))
 
-module _ (lines : ℕ → Line) (local : (i : ℕ) → Local (lines i)) where
-  module _ (ds t₀ : List ℕ) where
-    pub variables-start : length t₀ ≡ cells ds → Variables lines ds t₀ t₀ 0 1
-    variables-start e =
-        record {
-          within = zero-le;
-          pos = zero-lt-suc 0;
-          same = refl;
-          whole = omega (arith, e);
-          left = λ j. sym (strided-one lines ds (at t₀) j) ∙ ap (λ ls. strided ls 1 ds (at t₀) j) (fun-ext λ l. ap lines (sym (zero-add l)));
-        }
+module _ (lines : ℕ → Line) (local : (i : ℕ) → Local (lines i)) (ds : List ℕ) where
+  -- before variable i
+  pub variables-start : (t : List ℕ) (i s : ℕ) → i ≤ length ds → 0 < s → length t ≡ s * cells (drop i ds)
+      → Variables lines ds (strided (λ l. lines (i + l)) s (drop i ds) (at t)) (length t) t i s
+  variables-start t i s h p e = record { within = h; pos = p; same = refl; whole = e; left = λ j. refl }
 
-    module _ (t : List ℕ) (i s : ℕ) (r : Variables lines ds t₀ t i s) (h : i < length ds) where
+  module _ {goal : ℕ → ℕ} {n : ℕ} where
+    module _ (t : List ℕ) (i s : ℕ) (r : Variables lines ds goal n t i s) (h : i < length ds) where
       split : drop i ds ≡ at ds i ∷ drop (suc i) ds
       split = drop-cons ds i 0 h
 
@@ -117,7 +112,7 @@ module _ (lines : ℕ → Line) (local : (i : ℕ) → Local (lines i)) where
       block-divides = ap (_% (s * suc (at ds i))) count ∙ mul-mod-left _ _
 
       -- variable i done
-      pub variables-step : (t′ : List ℕ) → t′ ≡ tabulate (length t) (blocked (lines i) s (at ds i) (at t)) → Variables lines ds t₀ t′ (i + 1) (s * suc (at ds i))
+      pub variables-step : (t′ : List ℕ) → t′ ≡ tabulate (length t) (blocked (lines i) s (at ds i) (at t)) → Variables lines ds goal n t′ (i + 1) (s * suc (at ds i))
       variables-step t′ e =
           let d = at ds i in
           let long : length t′ ≡ length t = ap length e ∙ length-tabulate _ _ in
@@ -148,22 +143,70 @@ module _ (lines : ℕ → Line) (local : (i : ℕ) → Local (lines i)) where
               ap (λ (l : List ℕ). at l n) e ∙ at-tabulate _ _ n q
 
     -- all variables done
-    pub variables-done : (t : List ℕ) (i s : ℕ) → Variables lines ds t₀ t i s → length ds ≤ i
-        → t ≡ tabulate (length t₀) (λ n. alongEach lines ds (λ xs. at t₀ (cell ds xs)) (digits ds n))
+    pub variables-done : (t : List ℕ) (i s : ℕ) → Variables lines ds goal n t i s → length ds ≤ i → t ≡ tabulate n goal
     unfolding cells
     variables-done t i s r h =
-        eq-tabulate t (length t₀) _ (r .same) λ n p.
+        eq-tabulate t n goal (r .same) λ j p.
         let last : drop i ds ≡ [] = drop-of-length-le ds h in
         let stride : length t ≡ s = r .whole ∙ ap (λ (l : List ℕ). s * cells l) last ∙ mul-one s in
         sym
-        (sym (boxed-eq-along lines ds (at t₀) n)
-        ∙ r .left n
-        ∙ ap (λ (l : List ℕ). strided (λ l. lines (i + l)) s l (at t) n) last
-        ∙ strided-nil (λ l. lines (i + l)) s (at t) n (omega (arith, r .same)))
+        (r .left j
+        ∙ ap (λ (l : List ℕ). strided (λ l. lines (i + l)) s l (at t) j) last
+        ∙ strided-nil (λ l. lines (i + l)) s (at t) j (omega (arith, r .same)))
 
--- the same with one transform for all variables
-pub variables-along : (line : Line) → Local line → (ds t₀ t : List ℕ) (i s : ℕ) → Variables (λ l. line) ds t₀ t i s → length ds ≤ i
-    → t ≡ tabulate (length t₀) (λ n. along line ds (λ xs. at t₀ (cell ds xs)) (digits ds n))
-variables-along line local ds t₀ t i s r h =
-    variables-done (λ l. line) (λ l. local) ds t₀ t i s r h
-    ∙ tabulate-cong (length t₀) _ _ (λ n p. alongEach-same line ds (λ xs. at t₀ (cell ds xs)) (digits ds n))
+-- from the first variable on, with one transform for all
+pub walk-along : (line : Line) (ds t : List ℕ)
+    → tabulate (length t) (strided (λ l. line) 1 ds (at t)) ≡ tabulate (length t) (λ n. along line ds (λ xs. at t (cell ds xs)) (digits ds n))
+walk-along line ds t =
+    tabulate-cong (length t) _ _
+    (λ n p.
+    strided-one (λ l. line) ds (at t) n
+    ∙ boxed-eq-along (λ l. line) ds (at t) n
+    ∙ alongEach-same line ds (λ xs. at t (cell ds xs)) (digits ds n))
+
+-- where the first variable is done, u being the table after it, the others are left
+pub walk-first : (line : Line) → Local line → (d : ℕ) (ds t u : List ℕ) → length t ≡ cells (d ∷ ds) → u ≡ tabulate (length t) (blocked line 1 d (at t))
+    → tabulate (length u) (strided (λ l. line) (d + 1) ds (at u)) ≡ tabulate (length t) (strided (λ l. line) 1 (d ∷ ds) (at t))
+unfolding cells
+walk-first line local d ds t u whole done =
+    ap (λ (n : ℕ). tabulate n (strided (λ l. line) (d + 1) ds (at u))) long
+    ∙ tabulate-cong (length t) _ _ (λ n p.
+    strided-cong (λ l. line) (λ l. local) (d + 1) ds (at u) (blocked line 1 d (at t)) (omega arith) shown n
+    ∙ ap (λ (s : ℕ). strided (λ l. line) s ds (blocked line 1 d (at t)) n) stride
+    ∙ sym (strided-step (λ l. line) 1 d ds (at t) n (omega arith)))
+  where
+    long : length u ≡ length t
+    long = ap length done ∙ length-tabulate _ _
+
+    stride : d + 1 ≡ 1 * suc d
+    stride = omega arith
+
+    shown : (j : ℕ) → j < (d + 1) * cells ds → at u j ≡ blocked line 1 d (at t) j
+    shown j h =
+        let size : (d + 1) * cells ds ≡ cells ds * suc d = regroup (cells ds) d in
+        ap (λ (l : List ℕ). at l j) done ∙ at-tabulate (length t) _ j (rw whole (rw size at h))
+      where
+        regroup : (a d : ℕ) → (d + 1) * a ≡ a * suc d
+        regroup a d = omega arith
+
+-- the same from a degree list that is not empty, with its first degree
+module _ (ds : List ℕ) (h : 0 < length ds) {n : ℕ} (whole : n ≡ cells ds) where
+  pub first-rest : n ≡ (at ds 0 + 1) * cells (drop 1 ds)
+  unfolding cells
+  first-rest = whole ∙ ap cells (drop-cons ds 0 0 h) ∙ regroup (cells (drop 1 ds)) (at ds 0)
+    where
+      regroup : (a d : ℕ) → a * suc d ≡ (d + 1) * a
+      regroup a d = omega arith
+
+  pub first-divides : n % suc (at ds 0) ≡ 0
+  first-divides = ap (_% suc (at ds 0)) (first-rest ∙ regroup (cells (drop 1 ds)) (at ds 0)) ∙ mul-mod-left _ _
+    where
+      regroup : (a d : ℕ) → (d + 1) * a ≡ a * suc d
+      regroup a d = omega arith
+
+pub walk-short : (line : Line) → Local line → (ds t u : List ℕ) → 0 < length ds → length t ≡ cells ds
+    → u ≡ tabulate (length t) (blocked line 1 (at ds 0) (at t))
+    → tabulate (length u) (strided (λ l. line) (at ds 0 + 1) (drop 1 ds) (at u))
+    ≡ tabulate (length t) (λ n. along line ds (λ xs. at t (cell ds xs)) (digits ds n))
+walk-short line local [] t u h whole done = absurd (lt-irrefl 0 h)
+walk-short line local (d ∷ ds) t u h whole done = walk-first line local d ds t u whole done ∙ walk-along line (d ∷ ds) t

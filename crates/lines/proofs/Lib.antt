@@ -1,10 +1,10 @@
--- Laws of the loops: over variables and blocks (FlatLoops), the passes of the differences (Passes, PairPasses, TwoPasses, and
--- NothingLeft: where they may stop), of the conversions (DivisionPasses), and
--- the count of cells (BoxSizes).
+-- Laws of the loops: over variables and blocks (FlatLoops), the passes of the differences (Passes, PairPasses, TwoPasses), where these may stop
+-- (NothingLeft), short lines of neighbours (Neighbours), the passes of the conversions (DivisionPasses), the count of cells (BoxSizes).
 pub mod FlatLoops
 pub mod NothingLeft
 pub mod Passes
 pub mod PairPasses
 pub mod TwoPasses
+pub mod Neighbours
 pub mod DivisionPasses
 pub mod BoxSizes

@@ -1,17 +1,19 @@
 // Transforms of lines, done to a flat table along one variable after the other, in place and modulo 2^64. The first variable's exponent counts fastest:
 // along a variable with stride s and degree d the table is cut into blocks of s * (d + 1) numbers, each of s interleaved lines.
 ghost use mathlib.Core.Path.{_≡_};
-ghost use mathlib.Core.Bool.{cond};
+ghost use mathlib.Core.Bool.{true, cond};
+ghost use mathlib.Core.Logic.{_⊎_};
 ghost use Prim.Native.Nat.{suc, _*_, _%_, _^_, _≤_, _<_};
 ghost use lib.Dec.{eqb};
-ghost use lib.ListN.{length};
+ghost use lib.ListN.{length, drop};
 ghost use Rattle.meaning.specs.Tables.{tabulate, at};
 ghost use Rattle.meaning.specs.Boxes.{cells};
-ghost use Rattle.lines.specs.FlatTables.{lined, blocked};
+ghost use Rattle.lines.specs.FlatTables.{lined, blocked, strided};
 ghost use Rattle.lines.specs.Transforms.{lineOf, transformed};
 
 mod differences;
 mod division;
+mod first;
 
 // What is done to a line: Newton's differences at 0, or the coefficients of powers turned into those of falling factorials, or these turned back.
 pub enum Transform {
@@ -73,6 +75,42 @@ fn transform_variable(transform: Transform, table: &mut [u64], stride: usize, de
     size
 }
 
+// Along every variable from number `done` on, the first of which has the given stride.
+fn transform_rest(
+    transform: Transform,
+    table: &mut [u64],
+    degrees: &[u8],
+    done: usize,
+    start: usize,
+)
+    requires { ⌜ (done ≤ length (now degrees)) × (0 < start) × (length (now table) ≡ start * cells (drop done (now degrees))) ⌝ }
+    ensures { λ r. ⌜ now (table .exit) ≡ tabulate (length (now (table .entry)))
+        (strided (λ l. lineOf transform (2 ^ 64)) start (drop done (now (degrees .entry))) (at (now (table .entry)))) ⌝ }
+{
+    let mut stride = start;
+    let mut variable = done;
+    while variable < degrees.len() {
+        stride = transform_variable(transform, table, stride, degrees[variable]);
+        variable += 1;
+    }
+}
+
+// Whether the first variable has short lines, for which `first` has a way of its own.
+fn starts_short(transform: Transform, degrees: &[u8]) -> bool
+    ensures { λ r. ⌜ (r ≡ true → (transform ≡ Transform.Differences) × (0 < length (now (degrees .entry)))
+        × ((at (now (degrees .entry)) 0 ≡ 1) ⊎ (at (now (degrees .entry)) 0 ≡ 3))) ⌝ }
+{
+    match transform {
+        Transform::Differences => {
+            if degrees.len() == 0 {
+                return false;
+            }
+            degrees[0] == 1 || degrees[0] == 3
+        }
+        _ => false,
+    }
+}
+
 // Transforms the table, which has a number for each cell of the box of `degrees`, along every variable, the first one first. A table of any other
 // length is left as it was. A narrower width is read off the result, since its modulus divides 2^64.
 pub fn transform_all(transform: Transform, table: &mut [u64], degrees: &[u8])
@@ -82,10 +120,10 @@ pub fn transform_all(transform: Transform, table: &mut [u64], degrees: &[u8])
     if !has_box(table, degrees) {
         return;
     }
-    let mut stride = 1;
-    let mut variable = 0;
-    while variable < degrees.len() {
-        stride = transform_variable(transform, table, stride, degrees[variable]);
-        variable += 1;
+    if starts_short(transform, degrees) {
+        first::difference_first(table, degrees[0]);
+        transform_rest(transform, table, degrees, 1, degrees[0] as usize + 1);
+        return;
     }
+    transform_rest(transform, table, degrees, 0, 1);
 }

@@ -18,7 +18,8 @@ use Rattle.meaning.specs.Boxes.{cells, digits}
 use Rattle.meaning.specs.Values.{weight, oddFactor}
 use Rattle.theory.specs.Tables.{at-tabulate}
 use Rattle.theory.specs.Twos.{twos-factorial, legendre}
-use Rattle.multivar_poly_recovery.proofs.CellFactors.{cells-last, digits-last, weight-append, inverse-parts}
+use Rattle.multivar_poly_recovery.proofs.CellFactors.{cells-last, digits-last, inverse-parts}
+use Rattle.theory.specs.LastVariable.{weight-append}
 use Rattle.multivar_poly_recovery.specs.Extracted.{Row, Added}
 
 -- the table of inverses

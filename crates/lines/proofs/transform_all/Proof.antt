@@ -1,68 +1,89 @@
--- A table of another length is left. Else the loop: the variables that are left, done to the table as it is, give what was asked, and `stride`
--- is that of the next one; the measure is their number. A block along the next variable fits the table and divides it, as `transform_variable` asks.
+-- A table of another length is left. Else all variables are walked from the first one on, or a short first variable is done and the others are walked.
 use borrow.Author.Needs.{needs}
 use borrow.Author.Tests.{not-true, not-false, eqb-true}
-use mathlib.Core.Path.{_≡_, refl, sym, _∙_, ap}
-use mathlib.Core.Bool.{Bool, true, false, cond}
-use Prim.Native.Nat.{ℕ, _-_, _^_}
+use mathlib.Core.Path.{_≡_, sym, ap, _∙_}
+use mathlib.Core.Bool.{true}
+use mathlib.Core.Logic.{_⊎_}
+use Prim.Native.Nat.{_^_, _<_, zero-le}
+use native.Mathlib.Nat.{one-mul}
+use native.Mathlib.Omega.{arith}
 use lib.Dec.{eqb}
 use lib.ListN.{length}
 use denote.Ref.{now}
+use Rattle.meaning.specs.Tables.{tabulate, at}
 use Rattle.meaning.specs.Boxes.{cells}
-use Rattle.lines.specs.FlatTables.{Local}
-use Rattle.lines.specs.Transforms.{lineOf, transformed}
+use Rattle.lines.specs.FlatTables.{blocked}
+use Rattle.lines.specs.declared.Transform.{Transform}
+use Rattle.lines.specs.Transforms.{lineOf}
 use Rattle.lines.specs.TransformLaws.{lineOf-local}
-use Rattle.lines.proofs.FlatLoops.{Variables, variables-start, block-fits, block-divides, variables-step, variables-along}
+use Rattle.lines.proofs.FlatLoops.{walk-along, walk-short, first-rest, first-divides}
 use Rattle.lines.proofs.transform_all.Statement.{statement}
 use Rattle.lines.proofs.transform_all.Tie as tie
 
-abbrev Inv-loop : tie.InvT-loop
-Inv-loop transform table₀ degrees stride₀ variable₀ table stride variable = Variables (λ l. lineOf transform (2 ^ 64)) degrees table₀ table variable stride
-
-abbrev μ-loop : tie.MeasureT-loop
-μ-loop transform table₀ degrees stride₀ variable₀ table stride variable = length degrees - variable
-
--- the function's start, from the test of the length and from the loop's head
-abbrev asked : tie.After-has-box Inv-loop μ-loop → tie.Start Inv-loop μ-loop
+-- the function's start, from the test of the length
+abbrev asked : tie.After-has-box → tie.Start
 asked c = c .before .before .before .before
 
-abbrev start : tie.At-loop Inv-loop μ-loop → tie.Start Inv-loop μ-loop
-start l = asked (l .before .before)
-
--- the transform only reads its line, for each variable l
-local : (s : tie.Start Inv-loop μ-loop) (l : ℕ) → Local (lineOf (s .args .transform) (2 ^ 64))
-local s l = lineOf-local (s .args .transform) (2 ^ 64)
-
 -- the length, where the test finds it right
-fits : (c : tie.Else1 Inv-loop μ-loop) → let s = asked (c .before) in eqb (length (now (s .args .table))) (cells (now (s .args .degrees))) ≡ true
+fits : (c : tie.Else1) → let s = asked (c .before) in eqb (length (now (s .args .table))) (cells (now (s .args .degrees))) ≡ true
 fits c = sym (c .before .has-box .ensures) ∙ not-false _ (c .if1 .left)
+
+whole : (c : tie.Else1) → let s = asked (c .before) in length (now (s .args .table)) ≡ cells (now (s .args .degrees))
+whole c = eqb-true _ _ (fits c)
+
+-- a short first variable
+short : (c : tie.Then2) →
+    let k = asked (c .before .before .before) .args in
+    (k .transform ≡ Transform.Differences) × (0 < length (now (k .degrees))) × ((at (now (k .degrees)) 0 ≡ 1) ⊎ (at (now (k .degrees)) 0 ≡ 3))
+short c = c .before .starts-short .ensures (c .if2 .taken)
+
+-- it is done
+abbrev begun : tie.After-difference-first → tie.Then2
+begun c = c .before .before .before
+
+abbrev done : tie.After-shared-slice-known3 → tie.After-difference-first
+done c = c .before .before .before .before
+
+first : (c : tie.After-difference-first) →
+    let k = asked (begun c .before .before .before) .args in
+    c .difference-first .last .0
+    ≡ tabulate (length (now (k .table))) (blocked (lineOf (k .transform) (2 ^ 64)) 1 (at (now (k .degrees)) 0) (at (now (k .table))))
+first c =
+    let k = asked (begun c .before .before .before) .args in
+    c .difference-first .ensures
+    ∙ ap (λ (x : Transform). tabulate (length (now (k .table))) (blocked (lineOf x (2 ^ 64)) 1 (at (now (k .degrees)) 0) (at (now (k .table)))))
+    (sym (short (begun c) .0))
 
 pub transform-all-spec : {M : Type 1} → statement M
 transform-all-spec =
     tie.close
     (tie.spec
-    Inv-loop
-    μ-loop
     (λ c κs. search needs)
     (λ c. search needs)
     (λ c. rw (sym (c .before .has-box .ensures) ∙ not-true _ (c .if1 .taken)))
-    (λ c. variables-start _ (local (asked (c .before))) _ _ (eqb-true _ _ (fits c)))
-    (λ c. search needs)
+    (λ c κs. search needs)
+    (λ c. short (c .before .before) .1)
+    (λ c κs. let x = c .before .before in (short x .2, first-divides _ (short x .1) (whole (x .before .before))))
+    (λ c. short (begun (done c)) .1)
+    (λ c. omega (arith, c .shared-slice-known3 .given 0)) (λ c. omega (arith, c .shared-slice-known3 .given 0))
     (λ c κs.
-    let l = c .before .before .before in
-    let h = c .before .before .loop-test .taken in
-    let all = local (start l) in (
-      l .loop .inv .pos,
-      block-fits _ all _ _ (l .loop .table) (l .loop .variable) (l .loop .stride) (l .loop .inv) h,
-      block-divides _ all _ _ (l .loop .table) (l .loop .variable) (l .loop .stride) (l .loop .inv) h,
-    ))
-    (λ c. search needs) (λ c. search needs)
+    let x = done c in
+    let b = begun x in
+    (short b .1, omega arith, x .difference-first .kept .0 ∙ first-rest _ (short b .1) (whole (b .before .before))))
+    (λ c. search needs)
     (λ c.
-    let l = c .before .before .before .before .before .before in
-    let h = c .before .before .before .before .before .loop-test .taken in
-    let done = c .before .before .transform-variable .ensures in
-    rw (done .0) (variables-step _ (local (start l)) _ _ (l .loop .table) (l .loop .variable) (l .loop .stride) (l .loop .inv) h _ (done .1)))
-    (λ c. c .before .loop .inv .same)
+    let rest = c .before .before in
+    let x = done (rest .before) in
+    let b = begun x in
+    let e = b .before .before in
+    let k = asked (e .before) .args in
+    rw (fits e)
+    (rest .transform-rest .ensures
+    ∙ walk-short _ (lineOf-local (k .transform) (2 ^ 64)) (now (k .degrees)) (now (k .table)) _ (short b .1) (whole e) (first x)))
+    (λ c κs. let e = c .before .before .before in (zero-le, omega arith, whole e ∙ sym (one-mul _)))
+    (λ c. search needs)
     (λ c.
-    let l = c .before in
-    rw (fits (l .before)) (variables-along _ (local (start l) 0) _ _ (l .loop .table) (l .loop .variable) (l .loop .stride) (l .loop .inv) (c .loop-test .left))))
+    let rest = c .before .before in
+    let e = rest .before .before .before .before in
+    let k = asked (e .before) .args in
+    rw (fits e) (rest .transform-rest2 .ensures ∙ walk-along _ (now (k .degrees)) (now (k .table)))))
