@@ -9,12 +9,21 @@ use Rattle.cobra.proofs.FourLaws.{four-width, four-matrix, four-right, 
 use Rattle.cobra.proofs.systems.cobra_solve_2adic_fixed.Statement.{statement}
 use Rattle.cobra.proofs.systems.cobra_solve_2adic_fixed.Tie as tie
 
+-- the start, the width and the lengths passed, and the solver's call
 abbrev start : tie.Else1 → tie.Start
 start c = c .before .before .before .before .before
 
--- the tests of the lengths, and the one of the width before them
 abbrev wide : tie.Else4 → tie.Else1
 wide c = c .before .before .before
+
+abbrev passed : tie.After-solve-2adic-fixed → tie.Else4
+passed c = c .before .before .before .before .before .before .before .before .before .before .before .before .before .before .before .before .before .before .before .before .before
+
+abbrev called : tie.After-copy → tie.After-solve-2adic-fixed
+called c = c .before .before .before .before
+
+abbrev copied : tie.After-outcome-code → tie.After-copy
+copied c = c .before .before .before
 
 fits : (c : tie.Else1) → widthFits (start c .args .width) ≡ true
 fits c = sym (c .before .width-fits .ensures) ∙ not-false _ (c .if1 .left)
@@ -35,9 +44,12 @@ cobra-solve-2adic-fixed-spec =
     (λ c. search needs) (λ c. search needs) (λ c. search needs) (λ c. search needs) (λ c. search needs)
     (λ c κs. search needs) (λ c. search needs) (λ c κs. search needs) (λ c κs. search needs) (λ c. search needs)
     (λ c.
-    let e = c .before .before .before .before .before .before .before .before .before .before .before .before .before .before .before .before .before .before .before .before .before .before .before .before .before .before .before .before in
-    let k = c .before .before .before .before .before .before .before .solve-2adic-fixed .ensures in
-    let r = e .before .if3 .left in
-    four-solved _ _ _ _ (fits (wide e)) (ap₂ _&&_ (eq-eqb _ _ (e .before .before .if2 .left)) (ap₂ _&&_ (eq-eqb _ _ r) (eq-eqb _ _ (e .if4 .left))))
-    r (e .if4 .left) _ _ _ (c .outcome-code .ensures ∙ k .0) (k .1 .0) (λ z. k .1 .1 (sym (c .outcome-code .ensures) ∙ z))
-    (c .before .before .before .copy .ensures)))
+    let o = copied c in
+    let k = called o in
+    let s = k .solve-2adic-fixed .ensures in
+    let e = passed k in
+    let r = e .before in
+    four-solved _ _ _ _ (fits (wide e))
+    (ap₂ _&&_ (eq-eqb _ _ (r .before .if2 .left)) (ap₂ _&&_ (eq-eqb _ _ (r .if3 .left)) (eq-eqb _ _ (e .if4 .left))))
+    (r .if3 .left) (e .if4 .left) _ _ _ (c .outcome-code .ensures ∙ s .0) (s .1 .0) (λ z. s .1 .1 (sym (c .outcome-code .ensures) ∙ z))
+    (o .copy .ensures)))

@@ -14,13 +14,20 @@ Inv-loop powers size exps weight value₀ from₀ j₀ value from j = Multiplied
 abbrev μ-loop : tie.MeasureT-loop
 μ-loop powers size exps weight value₀ from₀ j₀ value from j = length exps - j
 
+-- the start, and the turn
+abbrev start : tie.At-loop Inv-loop μ-loop → tie.Start Inv-loop μ-loop
+start c = c .before .before .before
+
+abbrev turn : tie.After-wrapping-mul Inv-loop μ-loop → tie.In-loop Inv-loop μ-loop
+turn c = c .before .before .before
+
 -- the place of the falling factorial that is multiplied by lies in the table
-inside : (c : tie.In-loop Inv-loop μ-loop) → c .before .loop .from + at (c .before .before .before .before .args .exps .now) (c .before .loop .j)
-    < length (c .before .before .before .before .args .powers .now)
+inside : (c : tie.In-loop Inv-loop μ-loop) →
+    let l = c .before .loop in let a = start (c .before) .args in l .from + at (a .exps .now) (l .j) < length (a .powers .now)
 inside c =
-    let s = c .before .before .before .before in
-    entry-place (s .args .powers .now) (s .args .exps .now) (s .args .size) (s .args .weight) (c .before .loop .inv) (c .loop-test .taken)
-    (s .pre .0) (s .pre .1)
+    let s = start (c .before) in
+    let a = s .args in
+    entry-place (a .powers .now) (a .exps .now) (a .size) (a .weight) (c .before .loop .inv) (c .loop-test .taken) (s .pre .0) (s .pre .1)
 
 pub entry-spec : {M : Type 1} → statement M
 entry-spec =
@@ -29,33 +36,31 @@ entry-spec =
     Inv-loop
     μ-loop
     (λ c.
-    multiplied-start (c .before .before .args .powers .now) (c .before .before .args .exps .now) (c .before .before .args .size)
-    (c .before .before .args .weight) (c .before .before .fits .weight .fits))
+    let s = c .before .before in
+    let a = s .args in
+    multiplied-start (a .powers .now) (a .exps .now) (a .size) (a .weight) (s .fits .weight .fits))
     (λ c. search needs)
     (λ c. omega (arith, c .shared-slice-known3 .given (c .before .before .loop .j)))
-    (λ c. omega (arith, inside (c .before), c .before .before .before .before .before .good .0))
-    (λ c. omega (arith, inside (c .before), c .before .before .before .before .before .good .0))
+    (λ c. let t = c .before in omega (arith, inside t, start (t .before) .good .0))
+    (λ c. let t = c .before in omega (arith, inside t, start (t .before) .good .0))
     (λ c. inside (c .before .before))
     (λ c κs. search needs)
     (λ c.
+    let t = turn c in
+    let s = start (t .before) in
+    let a = s .args in
     omega (
       arith,
-      entry-fits (c .before .before .before .before .before .before .before .args .powers .now)
-          (c .before .before .before .before .before .before .before .args .exps .now)
-          (c .before .before .before .before .before .before .before .args .size) (c .before .before .before .before .before .before .before .args .weight)
-          (c .before .before .before .before .loop .inv) (c .before .before .before .loop-test .taken)
-          (c .before .before .before .before .before .before .before .pre .0)
-          (c .before .before .before .before .before .before .before .pre .1),
-      c .before .before .before .before .before .before .before .good .0,
+      entry-fits (a .powers .now) (a .exps .now) (a .size) (a .weight) (t .before .loop .inv) (t .loop-test .taken) (s .pre .0) (s .pre .1),
+      s .good .0,
     ))
     (λ c. search needs) (λ c. search needs)
     (λ c.
-    multiplied-next (c .before .before .before .before .before .before .before .args .powers .now)
-    (c .before .before .before .before .before .before .before .args .exps .now)
-    (c .before .before .before .before .before .before .before .args .size) (c .before .before .before .before .before .before .before .args .weight)
-    (c .before .before .before .before .loop .inv) (c .before .before .before .loop-test .taken)
-    (c .before .before .before .before .before .before .before .pre .0) (c .before .before .before .before .before .before .before .pre .1) _
+    let t = turn c in
+    let s = start (t .before) in
+    let a = s .args in
+    multiplied-next (a .powers .now) (a .exps .now) (a .size) (a .weight) (t .before .loop .inv) (t .loop-test .taken) (s .pre .0) (s .pre .1) _
     (c .wrapping-mul .ensures))
     (λ c.
-    multiplied-done (c .before .before .before .before .args .powers .now) (c .before .before .before .before .args .exps .now)
-    (c .before .before .before .before .args .size) (c .before .before .before .before .args .weight) (c .before .loop .inv) (c .loop-test .left)))
+    let a = start (c .before) .args in
+    multiplied-done (a .powers .now) (a .exps .now) (a .size) (a .weight) (c .before .loop .inv) (c .loop-test .left)))

@@ -17,6 +17,10 @@ Inv-loop right₀ targets bitwidth mask i₀ right i = Filled (λ n. at targets 
 abbrev μ-loop : tie.MeasureT-loop
 μ-loop right₀ targets bitwidth mask i₀ right i = length right - i
 
+-- the start
+abbrev start : tie.At-loop Inv-loop μ-loop → tie.Start Inv-loop μ-loop
+start c = c .before .before .before .before
+
 pub fill-right-spec : {M : Type 1} → statement M
 fill-right-spec =
     tie.close
@@ -25,10 +29,23 @@ fill-right-spec =
     μ-loop
     (λ c κs. search needs)
     (λ c. filled-start _ _)
-    (λ c. omega (arith, c .before .loop .inv .same, c .loop-test .taken, c .before .before .before .before .before .pre .0, c .before .before .before .before .before .good .0 .0))
-    (λ c. omega (arith, c .before .before .loop .inv .same, c .before .loop-test .taken, c .before .before .before .before .before .before .pre .0))
+    (λ c.
+    let b = c .before in
+    let s = start b in
+    omega (arith, b .loop .inv .same, c .loop-test .taken, s .pre .0, s .good .0 .0))
+    (λ c.
+    let t = c .before in
+    let b = t .before in
+    omega (arith, b .loop .inv .same, t .loop-test .taken, start b .pre .0))
     (λ c. search needs) (λ c. search needs) (λ c. search needs)
     (λ c. simp length-set (omega arith))
-    (λ c. filled-step _ _ (c .before .before .loop .right) (c .before .before .loop .i) _ (c .before .before .loop .inv) (c .before .loop-test .taken) (ap (bitAnd (at (c .before .before .before .before .before .before .args .targets .now) (c .before .before .loop .i))) (c .before .before .before .bitmask .ensures) ∙ masked-low (at (c .before .before .before .before .before .before .args .targets .now) (c .before .before .loop .i)) (c .before .before .before .before .before .before .args .bitwidth) (c .before .before .before .before .before .before .pre .1)))
+    (λ c.
+    let t = c .before in
+    let b = t .before in
+    let l = b .loop in
+    let s = start b in
+    let n = at (s .args .targets .now) (l .i) in
+    filled-step _ _ (l .right) (l .i) _ (l .inv) (t .loop-test .taken)
+    (ap (bitAnd n) (b .before .bitmask .ensures) ∙ masked-low n (s .args .bitwidth) (s .pre .1)))
     (λ c. c .before .loop .inv .same)
-    (λ c. filled-done _ _ (c .before .loop .right) (c .before .loop .i) (c .before .loop .inv) (omega (arith, c .before .loop .inv .same, c .loop-test .left))))
+    (λ c. let l = c .before .loop in filled-done _ _ (l .right) (l .i) (l .inv) (omega (arith, l .inv .same, c .loop-test .left))))

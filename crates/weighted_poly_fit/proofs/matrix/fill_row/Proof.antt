@@ -13,6 +13,10 @@ Inv-loop row₀ powers size columns variables weight bitwidth mask from₀ c₀ 
 abbrev μ-loop : tie.MeasureT-loop
 μ-loop row₀ powers size columns variables weight bitwidth mask from₀ c₀ row from c = length row - c
 
+-- the start
+abbrev start : tie.After-bitmask Inv-loop μ-loop → tie.Start Inv-loop μ-loop
+start c = c .before .before .before .before
+
 pub fill-row-spec : {M : Type 1} → statement M
 fill-row-spec =
     tie.close
@@ -20,13 +24,16 @@ fill-row-spec =
     Inv-loop
     μ-loop
     (λ c κs. search needs)
-    (λ c. row-start (c .before .before .before .before .pre .0 .0) (c .before .before .before .before .pre .0 .1) (c .before .before .before .before .pre .0 .2) (c .bitmask .ensures))
-    (λ c. omega (arith, row-fits (c .before .loop .inv) (c .loop-test .taken), c .before .before .before .before .before .before .good .1 .1 .1 .0))
+    (λ c. let p = start c .pre in row-start (p .0 .0) (p .0 .1) (p .0 .2) (c .bitmask .ensures))
+    (λ c. let b = c .before in omega (arith, row-fits (b .loop .inv) (c .loop-test .taken), start (b .before) .good .1 .1 .1 .0))
     (λ c. search needs) (λ c. search needs)
     (λ c. row-fits (c .before .loop .inv) (c .loop-test .taken))
-    (λ c κs. (row-wide (c .before .before .loop .inv) (c .before .loop-test .taken), row-small (c .before .before .loop .inv) (c .before .loop-test .taken) (c .before .before .before .before .before .before .before .pre .1)))
+    (λ c κs.
+    let t = c .before in
+    let b = t .before in
+    (row-wide (b .loop .inv) (t .loop-test .taken), row-small (b .loop .inv) (t .loop-test .taken) (start (b .before) .pre .1)))
     (λ c. search needs) (λ c. search needs) (λ c. search needs)
     (λ c. simp length-set (omega arith))
-    (λ c. row-next (c .before .before .before .loop .inv) (c .before .before .loop-test .taken) (c .entry .result) (c .entry .ensures))
+    (λ c. let t = c .before .before in row-next (t .before .loop .inv) (t .loop-test .taken) (c .entry .result) (c .entry .ensures))
     (λ c. c .before .loop .inv .same)
     (λ c. row-done (c .before .loop .inv) (c .loop-test .left)))
