@@ -1,9 +1,6 @@
 // The database's calls: recovery and value on tables of bytes, eight to an entry, least first, at most 4,096 entries each.
 ghost use mathlib.Core.Path.{_≡_};
-ghost use Prim.Native.Nat.{_*_};
-ghost use lib.ListN.{length};
 ghost use Rattle.meaning.specs.Settings.{cube};
-ghost use Rattle.meaning.specs.Calls.{recoveryNumber, recoveryLeft, valueReply};
 ghost use Rattle.demand3.specs.Promises.{Decides, Valued};
 ghost use Rattle.answers.specs.Said.{said, saidNumber};
 ghost use Rattle.byte_calls.specs.Bytes.{decoded, encoded};
@@ -67,29 +64,6 @@ pub fn recover(
     }
 }
 
-// The value with room lent for the indices, the coefficients and the coordinates.
-fn value_in(
-    coeffs: &[u8],
-    support: &[u8],
-    total: u32,
-    width: u32,
-    degree: u8,
-    point: &[u8],
-    indices: &mut [u64],
-    given: &mut [u64],
-    coordinates: &mut [u64],
-) -> Number
-    requires { ⌜ (length (now support) ≡ length (now indices) * 8) × (length (now coeffs) ≡ length (now given) * 8) × (length
-        (now point) ≡ length (now coordinates) * 8) ⌝ }
-    ensures { λ r. ⌜ said r ≡ valueReply total width (decoded (now (support .entry))) (cube (decoded (now (support .entry))) degree)
-        (decoded (now (coeffs .entry))) (decoded (now (point .entry))) ⌝ }
-{
-    codec::decode(support, indices);
-    codec::decode(coeffs, given);
-    codec::decode(point, coordinates);
-    poly::value(given, indices, total, width, degree, coordinates)
-}
-
 // The value of a box of coefficients at a point, modulo 2^width: the sum over the cells of the coefficient times the falling factorials of the coordinates to
 // the cell's exponents. `support` has `count` indices, `coeffs` a coefficient for each cell, `point` a coordinate for each support variable. Refused in the
 // order 9 (the support's bytes), 1, 2, 3, 5, 7, 8 (more than 4,096 cells), 9 (the other tables' bytes). Nothing is altered.
@@ -118,20 +92,30 @@ pub fn value(
                 return Number::Refused(Refusal::WrongLength);
             }
             let known = count as usize;
-            let size = cells as usize;
             let mut indices = [0u64; 20];
-            let mut given = [0u64; 4096];
-            let mut coordinates = [0u64; 20];
-            value_in(
+            if cells <= 64 {
+                return held::value_small(
+                    coeffs,
+                    support,
+                    count,
+                    total,
+                    width,
+                    degree,
+                    cells,
+                    point,
+                    &mut indices[..known],
+                );
+            }
+            held::value_large(
                 coeffs,
                 support,
+                count,
                 total,
                 width,
                 degree,
+                cells,
                 point,
                 &mut indices[..known],
-                &mut given[..size],
-                &mut coordinates[..known],
             )
         }
     }
