@@ -59,7 +59,9 @@
  * STACK AND THREADS
  *
  * The calls use the stack and nothing else: no heap, no global state, no file. At most
- * COBRA_RECOVER_STACK, COBRA_VALUE_STACK and COBRA_FIT_STACK bytes of the caller's stack.
+ * COBRA_RECOVER_STACK, COBRA_VALUE_STACK and COBRA_FIT_STACK bytes of the caller's stack; to 64
+ * cells COBRA_RECOVER_STACK_SMALL and COBRA_VALUE_STACK_SMALL are enough, and to 128 entries of
+ * the fit's matrix COBRA_FIT_STACK_SMALL.
  * Any number of threads may call at once; each must have tables of its own to write to.
  *
  * LINKING
@@ -99,6 +101,9 @@ extern "C" {
 #define COBRA_RECOVER_STACK 98304u
 #define COBRA_VALUE_STACK 65536u
 #define COBRA_FIT_STACK 327680u
+#define COBRA_RECOVER_STACK_SMALL 8192u
+#define COBRA_VALUE_STACK_SMALL 8192u
+#define COBRA_FIT_STACK_SMALL 98304u
 
 /*
  * Recovers a polynomial from its values on a grid.

@@ -41,6 +41,32 @@ static void *fit(void *arg)
     return arg;
 }
 
+/* calls on bytes that have less room: to 64 cells, and to 128 entries of the matrix */
+static void *small_recover(void *arg)
+{
+    cobra_recover(first, 8 * 64, support, 8 * 6, 6, 20, 64, 1, out, 8 * 64);
+    cobra_recover(first, 8 * 64, support, 8, 1, 20, 64, 63, out, 8 * 64);
+    return arg;
+}
+
+static void *small_value(void *arg)
+{
+    uint64_t at;
+    cobra_value(first, 8 * 64, support, 8 * 6, 6, 20, 64, 1, support, 8 * 6, &at);
+    cobra_value(first, 8 * 64, support, 8, 1, 20, 64, 63, support, 8, &at);
+    cobra_value(first, 8, support, 8 * 20, 20, 20, 64, 0, support, 8 * 20, &at);
+    return arg;
+}
+
+static void *small_fit(void *arg)
+{
+    uint64_t used;
+    cobra_fit(first, 8 * 128, second, 8 * 128, support, 8 * 7, 7, 20, 64, 0, 1, out, 8, &used);
+    cobra_fit(first, 8 * 11, second, 8 * 11, support, 8, 1, 20, 64, 10, 10, out, 8 * 11, &used);
+    cobra_fit(first, 8 * 64, second, 8 * 64, support, 8, 1, 20, 64, 1, 63, out, 8 * 2, &used);
+    return arg;
+}
+
 /* the calls on tables of u64 but fit and bare solver, on the largest boxes */
 static void *boxes(void *arg)
 {
@@ -153,6 +179,9 @@ void part_stack(void)
         {"cobra_recover", recover, COBRA_RECOVER_STACK},
         {"cobra_value", value, COBRA_VALUE_STACK},
         {"cobra_fit", fit, COBRA_FIT_STACK},
+        {"cobra_recover to 64 cells", small_recover, COBRA_RECOVER_STACK_SMALL},
+        {"cobra_value to 64 cells", small_value, COBRA_VALUE_STACK_SMALL},
+        {"cobra_fit to 128 entries", small_fit, COBRA_FIT_STACK_SMALL},
         {"calls on u64 tables", boxes, COBRA_CALL_STACK},
         {"solver to 256 rows", small_systems, COBRA_SOLVER_STACK_SMALL},
         {"solver of more rows", large_systems, COBRA_SOLVER_STACK_LARGE},

@@ -6,7 +6,7 @@ use Prim.Native.Nat.{ℕ, pred, _*_, _≤_, _<_}
 use native.Mathlib.Nat.{suc-ne-zero}
 use native.Mathlib.Omega.{arith}
 use lib.Dec.{ltb, eqb}
-use lib.ListN.{length}
+use lib.ListN.{length, take, replicate}
 use borrow.Author.Tests.{eq-eqb, eqb-true, lt-ltb, le-ltb, ltb-true, ltb-false}
 use Rattle.meaning.specs.Tables.{tabulate}
 use Rattle.meaning.specs.Boxes.{cells}
@@ -22,7 +22,7 @@ use Rattle.weighted_poly_fit.specs.Sizes.{fitSettings, sizeCause, columnsReply}
 use Rattle.byte_calls.specs.Bytes.{decoded, encoded}
 use Rattle.byte_calls.specs.ByteLaws.{length-decoded}
 use Rattle.byte_calls.specs.Calls.{holds, boxNumber, fitHeld, fitBytesCause, fitBytesReply, fitBytesLeft}
-use Rattle.byte_calls.specs.TableLaws.{Boxed}
+use Rattle.byte_calls.specs.TableLaws.{Boxed, zeros, lent-zeros}
 
 -- reply and table of a refused call
 pub record Turned (count : ℕ) (support weights targets out : List ℕ) (f : Fit) (n : ℕ) : Type 0 where
@@ -127,3 +127,15 @@ module _ (count total w : ℕ) (support : List ℕ) (most grid : ℕ) (weights t
             p ∙ ap (λ (n : ℕ). reply (first n ends) said) (lent-cause ∙ sym held-cause),
             q ∙ ap (λ (n : ℕ). encoded (left n done found)) lent-cause ∙ ap (λ (n : ℕ). left n (encoded done) out) (sym held-cause),
           )
+
+-- the tables that are lent are zeros
+pub lent-fitted : (total w : ℕ) (support : List ℕ) (most grid : ℕ) (v u : List ℕ) (n rows cells room : ℕ) → n ≤ room → rows ≤ room → cells ≤ room
+    → {r : Reply} {t : List ℕ}
+    → let f = fitOf total w support most grid v u (take n (replicate room 0)) (take rows (replicate room 0)) (take cells (replicate room 0)) in
+    (r ≡ fitReply f) × (t ≡ encoded (fitOut f))
+    → let f = fitOf total w support most grid v u (zeros n) (zeros rows) (zeros cells) in (r ≡ fitReply f) × (t ≡ encoded (fitOut f))
+lent-fitted total w support most grid v u n rows cells room h j k (e, l) =
+    let fit : List ℕ → List ℕ → List ℕ → Fit = λ x y z. fitOf total w support most grid v u x y z in
+    let same = ap₂ (λ (x y : List ℕ). fit x y (take cells (replicate room 0))) (lent-zeros n room h) (lent-zeros rows room j)
+    ∙ ap (fit (zeros n) (zeros rows)) (lent-zeros cells room k) in
+    (e ∙ ap fitReply same, l ∙ ap (λ (f : Fit). encoded (fitOut f)) same)

@@ -2,9 +2,9 @@
 -- are turned down, a wrong length, and the call on the tables that the bytes hold.
 use mathlib.Core.Path.{_≡_, refl, sym, _∙_, ap, ap₂}
 use mathlib.Core.Bool.{Bool, true, false, _&&_, cond}
-use mathlib.Core.List.{List}
-use Prim.Native.Nat.{ℕ, suc, _*_, _≤_, _^_}
-use native.Mathlib.Nat.{suc-ne-zero}
+use mathlib.Core.List.{List, _∷_}
+use Prim.Native.Nat.{ℕ, zero, suc, _*_, _≤_, _<_, _^_}
+use native.Mathlib.Nat.{lt-irrefl, le-of-suc-le-suc, not-suc-le-zero, suc-ne-zero}
 use native.Mathlib.Omega.{arith}
 use lib.Dec.{eqb}
 use lib.ListN.{length, take, replicate, length-replicate}
@@ -39,13 +39,25 @@ is-true false n e = absurd (suc-ne-zero n e)
 pub room : (n most : ℕ) → n ≤ most → n ≡ length (take n (replicate {A = ℕ} most 0))
 room n most h = sym (length-take-le n (replicate most 0) (rw (length-replicate {A = ℕ} most 0) h))
 
--- n of 4,096 zeros, which is what a local table of n entries has at first
-unfoldable pub zeros : ℕ → List ℕ
-zeros n = take n (replicate 4096 0)
+-- what a local table of n entries has at first, and what is lent of a longer one
+abbrev pub zeros : ℕ → List ℕ
+zeros n = replicate n 0
 
-pub length-zeros : (n : ℕ) → n ≤ 4096 → length (zeros n) ≡ n
-unfolding zeros
-length-zeros n h = sym (room n 4096 h)
+pub length-zeros : (n : ℕ) → length (zeros n) ≡ n
+length-zeros n = length-replicate {A = ℕ} n 0
+
+pub lent-zeros : (n most : ℕ) → n ≤ most → take n (replicate most 0) ≡ zeros n
+lent-zeros zero most h = refl
+lent-zeros (suc n) zero h = absurd (not-suc-le-zero h)
+lent-zeros (suc n) (suc most) h = ap (0 ∷_) (lent-zeros n most (le-of-suc-le-suc h))
+
+-- what is more is not at most
+pub not-most : {A : Type 0} (n most : ℕ) → n ≤ most → most < n → A
+not-most n most h l = absurd (lt-irrefl most (omega (arith, h, l)))
+
+-- bytes of more than 64 entries are more than 512
+pub not-small : {A : Type 0} (bytes cells : ℕ) → bytes ≡ cells * 8 → bytes ≤ 512 → 64 < cells → A
+not-small bytes cells e h l = not-most bytes 512 h (omega (arith, e, l))
 
 -- a wrong length settles the number, and the table stays
 nine-first : (n k : ℕ) → n ≡ 9 → _≡_ {A = ℕ} 9 (first n k)
@@ -148,6 +160,15 @@ module _ (count total w : ℕ) (support ds values out : List ℕ) where
             p ∙ ap (λ (k : ℕ). first k (cond (accepts w ds v) 0 6)) (passed ∙ sym cause),
             q ∙ ap (λ (k : ℕ). encoded (left k done found)) passed ∙ ap (λ (k : ℕ). left k (encoded done) out) (sym cause),
           )
+
+-- the tables that are lent are zeros
+pub lent-recovered : (total w : ℕ) (support ds v : List ℕ) (n most : ℕ) → n ≤ most → {x : ℕ} {t : List ℕ}
+    → (x ≡ recoveryNumber total w support ds v (take n (replicate most 0))) × (t ≡ encoded (recoveryLeft total w support ds v (take n (replicate most 0))))
+    → (x ≡ recoveryNumber total w support ds v (zeros n)) × (t ≡ encoded (recoveryLeft total w support ds v (zeros n)))
+lent-recovered total w support ds v n most h (e, f) = (
+  e ∙ ap (recoveryNumber total w support ds v) (lent-zeros n most h),
+  f ∙ ap (λ (z : List ℕ). encoded (recoveryLeft total w support ds v z)) (lent-zeros n most h),
+)
 
 -- ---- the value
 

@@ -67,7 +67,23 @@ fn fit_sized(
     if !lengths_fit(weights, targets, out, rows, cells) {
         return Number::Refused(Refusal::WrongLength);
     }
-    rooms::fit_held(
+    if entries <= 128 {
+        return rooms::fit_small(
+            weights,
+            targets,
+            support,
+            count,
+            total,
+            width,
+            max_degree,
+            grid_degree,
+            rows,
+            cols,
+            cells,
+            out,
+        );
+    }
+    rooms::fit_large(
         weights,
         targets,
         support,
@@ -77,7 +93,7 @@ fn fit_sized(
         max_degree,
         grid_degree,
         rows,
-        entries,
+        cols,
         cells,
         out,
     )

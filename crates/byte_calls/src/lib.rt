@@ -1,9 +1,6 @@
 // The database's calls: recovery and value on tables of bytes, eight to an entry, least first, at most 4,096 entries each.
 ghost use mathlib.Core.Path.{_≡_};
-ghost use Prim.Native.Nat.{_*_};
-ghost use lib.ListN.{length};
 ghost use Rattle.meaning.specs.Settings.{cube};
-ghost use Rattle.meaning.specs.Calls.{recoveryNumber, recoveryLeft, valueReply};
 ghost use Rattle.demand3.specs.Promises.{Decides, Valued};
 ghost use Rattle.answers.specs.Said.{said, saidNumber};
 ghost use Rattle.byte_calls.specs.Bytes.{decoded, encoded};
@@ -13,45 +10,12 @@ ghost use Rattle.byte_calls.specs.Passing.{RecoverHolds, ValueHolds};
 mod checks;
 mod codec;
 pub mod fit;
+mod held;
 mod rooms;
 
 use answers::Number;
 use answers::Outcome;
 use answers::Refusal;
-
-// Recovery with room lent for the indices, the values and the coefficients.
-fn recover_in(
-    values: &[u8],
-    support: &[u8],
-    total: u32,
-    width: u32,
-    degree: u8,
-    indices: &mut [u64],
-    given: &mut [u64],
-    found: &mut [u64],
-    out: &mut [u8],
-) -> Outcome
-    requires { ⌜ (length (now support) ≡ length (now indices) * 8) × (length (now values) ≡ length (now given) * 8) × (length
-        (now out) ≡ length (now found) * 8) ⌝ }
-    ensures says { λ r. ⌜ saidNumber r ≡ recoveryNumber total width (decoded (now (support .entry))) (cube (decoded (now (support .entry))) degree)
-        (decoded (now (values .entry))) (now (found .entry)) ⌝ }
-    ensures leaves { λ r. ⌜ now (out .exit) ≡ encoded (recoveryLeft total width (decoded (now (support .entry))) (cube (decoded
-        (now (support .entry))) degree)
-        (decoded (now (values .entry))) (now (found .entry))) ⌝ }
-{
-    codec::decode(support, indices);
-    codec::decode(values, given);
-    let outcome = multivar_poly_recovery::recover_multivar_poly(
-        given,
-        indices,
-        total,
-        width,
-        degree,
-        found,
-    );
-    codec::encode(found, out);
-    outcome
-}
 
 // Recovers the coefficients of the falling factorials from the values on the grid {0, .., degree} over the support variables, modulo 2^width. `support` has
 // `count` indices, `values` a value for each grid point and `out` gets a coefficient for each exponent list, first support variable fastest. Refused in the
@@ -83,47 +47,21 @@ pub fn recover(
             if !checks::holds(out, cells) {
                 return Outcome::Refused(Refusal::WrongLength);
             }
-            let known = count as usize;
-            let size = cells as usize;
-            let mut indices = [0u64; 20];
-            let mut given = [0u64; 4096];
-            let mut found = [0u64; 4096];
-            recover_in(
-                values,
-                support,
-                total,
-                width,
-                degree,
-                &mut indices[..known],
-                &mut given[..size],
-                &mut found[..size],
-                out,
-            )
+            if cells <= 64 {
+                return held::recover_small(
+                    values,
+                    support,
+                    count,
+                    total,
+                    width,
+                    degree,
+                    cells,
+                    out,
+                );
+            }
+            held::recover_large(values, support, count, total, width, degree, cells, out)
         }
     }
-}
-
-// The value with room lent for the indices, the coefficients and the coordinates.
-fn value_in(
-    coeffs: &[u8],
-    support: &[u8],
-    total: u32,
-    width: u32,
-    degree: u8,
-    point: &[u8],
-    indices: &mut [u64],
-    given: &mut [u64],
-    coordinates: &mut [u64],
-) -> Number
-    requires { ⌜ (length (now support) ≡ length (now indices) * 8) × (length (now coeffs) ≡ length (now given) * 8) × (length
-        (now point) ≡ length (now coordinates) * 8) ⌝ }
-    ensures { λ r. ⌜ said r ≡ valueReply total width (decoded (now (support .entry))) (cube (decoded (now (support .entry))) degree)
-        (decoded (now (coeffs .entry))) (decoded (now (point .entry))) ⌝ }
-{
-    codec::decode(support, indices);
-    codec::decode(coeffs, given);
-    codec::decode(point, coordinates);
-    poly::value(given, indices, total, width, degree, coordinates)
 }
 
 // The value of a box of coefficients at a point, modulo 2^width: the sum over the cells of the coefficient times the falling factorials of the coordinates to
@@ -154,20 +92,30 @@ pub fn value(
                 return Number::Refused(Refusal::WrongLength);
             }
             let known = count as usize;
-            let size = cells as usize;
             let mut indices = [0u64; 20];
-            let mut given = [0u64; 4096];
-            let mut coordinates = [0u64; 20];
-            value_in(
+            if cells <= 64 {
+                return held::value_small(
+                    coeffs,
+                    support,
+                    count,
+                    total,
+                    width,
+                    degree,
+                    cells,
+                    point,
+                    &mut indices[..known],
+                );
+            }
+            held::value_large(
                 coeffs,
                 support,
+                count,
                 total,
                 width,
                 degree,
+                cells,
                 point,
                 &mut indices[..known],
-                &mut given[..size],
-                &mut coordinates[..known],
             )
         }
     }

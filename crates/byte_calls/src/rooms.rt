@@ -1,6 +1,6 @@
 // The fit on tables of bytes with room for its tables: indices, weights, targets, the system and the coefficients.
 ghost use mathlib.Core.Path.{_≡_};
-ghost use Prim.Native.Nat.{_*_, _≤_};
+ghost use Prim.Native.Nat.{_*_, _≤_, _<_};
 ghost use lib.ListN.{length};
 ghost use Rattle.meaning.specs.Fit.{fitOf, fitReply, fitOut};
 ghost use Rattle.answers.specs.Said.{said};
@@ -69,8 +69,8 @@ fn fit_in(
     answer
 }
 
-// The fit of a matrix of `entries` entries and a box of `cells` cells, whose tables have their exact lengths.
-pub(crate) fn fit_held(
+// The fit of a matrix of `rows` times `cols` entries and a box of `cells` cells, whose tables have their exact lengths, with room for 128 entries a table.
+pub(crate) fn fit_small(
     weights: &[u8],
     targets: &[u8],
     support: &[u8],
@@ -80,17 +80,88 @@ pub(crate) fn fit_held(
     max_degree: u8,
     grid_degree: u8,
     rows: u64,
-    entries: u64,
+    cols: u64,
     cells: u64,
     out: &mut [u8],
 ) -> Number
     requires { ⌜ (length (now support) ≡ count * 8) × (length (now weights) ≡ rows * 8) × (length (now targets) ≡ rows * 8) × (length (now out) ≡ cells * 8) ⌝ }
-    requires { ⌜ (count ≤ 20) × (rows ≤ 4096) × (entries ≤ 4096) × (cells ≤ 4096) ⌝ }
+    requires { ⌜ (count ≤ 20) × (rows ≤ 128) × (rows * cols ≤ 128) × (cells ≤ 128) ⌝ }
     ensures says { λ r. ⌜ said r ≡ fitReply (fitOf total width (decoded (now (support .entry))) «max_degree» «grid_degree» (decoded (now (weights .entry)))
-        (decoded (now (targets .entry))) (zeros entries) (zeros rows) (zeros cells)) ⌝ }
+        (decoded (now (targets .entry))) (zeros (rows * cols)) (zeros rows) (zeros cells)) ⌝ }
     ensures leaves { λ r. ⌜ now (out .exit) ≡ encoded (fitOut (fitOf total width (decoded (now (support .entry))) «max_degree» «grid_degree»
-        (decoded (now (weights .entry))) (decoded (now (targets .entry))) (zeros entries) (zeros rows) (zeros cells))) ⌝ }
+        (decoded (now (weights .entry))) (decoded (now (targets .entry))) (zeros (rows * cols)) (zeros rows) (zeros cells))) ⌝ }
 {
+    let entries = rows * cols;
+    let mut indices = [0u64; 20];
+    let mut factors = [0u64; 128];
+    let mut wanted = [0u64; 128];
+    let mut matrix = [0u64; 128];
+    let mut right = [0u64; 128];
+    let mut found = [0u64; 128];
+    let known = count as usize;
+    let points = rows as usize;
+    let size = entries as usize;
+    let kept = cells as usize;
+    fit_in(
+        weights,
+        targets,
+        support,
+        total,
+        width,
+        max_degree,
+        grid_degree,
+        &mut indices[..known],
+        &mut factors[..points],
+        &mut wanted[..points],
+        &mut matrix[..size],
+        &mut right[..points],
+        &mut found[..kept],
+        out,
+    )
+}
+
+// With room for 4,096 entries a table, where the matrix has more than 128. It calls itself where it has not, which is never the case: so its room is not laid
+// out in the frame of its caller.
+pub(crate) fn fit_large(
+    weights: &[u8],
+    targets: &[u8],
+    support: &[u8],
+    count: u64,
+    total: u32,
+    width: u32,
+    max_degree: u8,
+    grid_degree: u8,
+    rows: u64,
+    cols: u64,
+    cells: u64,
+    out: &mut [u8],
+) -> Number
+    requires { ⌜ (length (now support) ≡ count * 8) × (length (now weights) ≡ rows * 8) × (length (now targets) ≡ rows * 8) × (length (now out) ≡ cells * 8) ⌝ }
+    requires { ⌜ (count ≤ 20) × (rows ≤ 4096) × (rows * cols ≤ 4096) × (cells ≤ 4096) × (128 < rows * cols) ⌝ }
+    ensures says { λ r. ⌜ said r ≡ fitReply (fitOf total width (decoded (now (support .entry))) «max_degree» «grid_degree» (decoded (now (weights .entry)))
+        (decoded (now (targets .entry))) (zeros (rows * cols)) (zeros rows) (zeros cells)) ⌝ }
+    ensures leaves { λ r. ⌜ now (out .exit) ≡ encoded (fitOut (fitOf total width (decoded (now (support .entry))) «max_degree» «grid_degree»
+        (decoded (now (weights .entry))) (decoded (now (targets .entry))) (zeros (rows * cols)) (zeros rows) (zeros cells))) ⌝ }
+{
+    let entries = rows * cols;
+    if entries <= 128 {
+        let never = fit_large(
+            weights,
+            targets,
+            support,
+            count,
+            total,
+            width,
+            max_degree,
+            grid_degree,
+            rows,
+            cols,
+            cells,
+            out,
+        );
+        out[0] = 0;
+        return never;
+    }
     let mut indices = [0u64; 20];
     let mut factors = [0u64; 4096];
     let mut wanted = [0u64; 4096];

@@ -1,5 +1,5 @@
 -- Support and values are decoded, recovery answers on them, and what it leaves is encoded.
-use Rattle.byte_calls.proofs.recover_in.Statement.{statement}
+use Rattle.byte_calls.proofs.held.recover_in.Statement.{statement}
 use borrow.Author.Needs.{needs}
 use mathlib.Core.Path.{_∙_, ap, ap₂}
 use mathlib.Core.List.{List}
@@ -8,7 +8,7 @@ use denote.Ref.{now}
 use Rattle.meaning.specs.Settings.{cube}
 use Rattle.meaning.specs.Calls.{recoveryNumber, recoveryLeft}
 use Rattle.byte_calls.specs.Bytes.{encoded}
-use Rattle.byte_calls.proofs.recover_in.Tie as tie
+use Rattle.byte_calls.proofs.held.recover_in.Tie as tie
 
 pub recover-in-spec : {M : Type 1} → statement M
 recover-in-spec =

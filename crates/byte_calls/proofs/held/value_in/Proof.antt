@@ -1,5 +1,5 @@
 -- Support, coefficients and point are decoded, and the value is the one of what they hold.
-use Rattle.byte_calls.proofs.value_in.Statement.{statement}
+use Rattle.byte_calls.proofs.held.value_in.Statement.{statement}
 use borrow.Author.Needs.{needs}
 use mathlib.Core.Path.{_∙_, ap, ap₂}
 use mathlib.Core.List.{List}
@@ -9,7 +9,7 @@ use Rattle.meaning.specs.Settings.{cube}
 use Rattle.meaning.specs.Calls.{valueReply}
 use Rattle.byte_calls.specs.Bytes.{decoded}
 use denote.Ref.{now}
-use Rattle.byte_calls.proofs.value_in.Tie as tie
+use Rattle.byte_calls.proofs.held.value_in.Tie as tie
 
 pub value-in-spec : {M : Type 1} → statement M
 value-in-spec =
