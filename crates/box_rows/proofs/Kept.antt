@@ -15,7 +15,7 @@ use Rattle.theory.specs.Words.{low-bits}
 use Rattle.theory.specs.Twos.{twos-factorial}
 use Rattle.theory.specs.LastVariable.{others, final, bound-last}
 use Rattle.theory.specs.Parts.{part, part-entry, put, filled-part}
-use Rattle.theory.specs.Walks.{Walk, walk-start, walk-exponent, walk-fits, walk-less, walk-part, walk-next}
+use Rattle.box_rows.specs.Walks.{Walk, walk-start, walk-exponent, walk-fits, walk-less, walk-part, walk-next}
 use Rattle.box_rows.specs.Rows.{Laid, mask-less, row-mask}
 
 -- ---- the mask along a line

@@ -41,10 +41,6 @@ pub mod WordDifferences
 pub mod Indices
 pub mod Settings
 pub mod LastVariable
-pub mod Walks
-pub mod BoxValues
-pub mod BoxBounds
-pub mod SameLists
 pub mod AcceptedCalls
 pub mod NormalCalls
 pub mod Trailing

@@ -14,7 +14,7 @@ use Rattle.meaning.specs.Recovery.{difference, every, divides, coefficient, acc
 use Rattle.theory.specs.Congruence.{Cong, cong-sym, cong-trans, mod-cong, eq-of-cong, minus-lt}
 use Rattle.theory.specs.Boxes.{digits-within}
 use Rattle.theory.specs.Evaluation.{differences-cong, differences-of-mul}
-use Rattle.theory.specs.BoxBounds.{every-cong}
+use Rattle.theory.specs.Every.{every-cong}
 use Rattle.theory.specs.Tables.{tabulate-cong, at-tabulate}
 
 -- differences of numbers below m are below m
