@@ -23,8 +23,7 @@ fn recover_from_grid(values: &[u64], degrees: &[u8], bitwidth: u32, out: &mut [u
 {
     tables::copy(values, out);
     differences::difference_all(out, degrees);
-    let inverses = math_utils::tables::odd_factorial_inverses();
-    if extraction::extract(out, degrees, bitwidth, &inverses) {
+    if extraction::extract(out, degrees, bitwidth) {
         return Outcome::Accepted;
     }
     Outcome::Refused(Refusal::NotDivisible)

@@ -9,6 +9,7 @@ ghost use Rattle.answers.specs.Said.{saidNumber};
 mod differences;
 mod extraction;
 mod grid;
+mod units;
 
 use answers::Outcome;
 

@@ -17,9 +17,6 @@ copy-requires c κs = search needs
 difference-all-requires : tie.Need-difference-all-requires
 difference-all-requires c κs = search needs
 
-odd-factorial-inverses-requires : tie.Need-odd-factorial-inverses-requires
-odd-factorial-inverses-requires c κs = search needs
-
 extract-requires : tie.Need-extract-requires
 extract-requires c κs = search needs
 
@@ -29,13 +26,13 @@ same-length c = search needs
 -- the table goes through recovery's steps
 steps : (c : tie.After-slice-known4) →
     let x = c .before .before in
-    let k = x .before .before .before .before .before .before .before .before .before .before .before .before .before .before .before .args in
+    let k = x .before .before .before .before .before .before .before .before .before .before .before .before .before .args in
     (x .extract .result ≡ accepts (k .bitwidth) (now (k .degrees)) (now (k .values)))
     × (x .extract .last .0 ≡ cond (accepts (k .bitwidth) (now (k .degrees)) (now (k .values))) (answer (k .bitwidth) (now (k .degrees)) (now (k .values)))
     (tabulate (cells (now (k .degrees))) (λ n. 0)))
 steps c =
     let x = c .before .before in
-    let d = x .before .before .before .before .before .before in
+    let d = x .before .before .before .before in
     let y = d .before .before .before .before in
     let b = y .before .before .before .before .before in
     let p = b .pre in
@@ -61,7 +58,6 @@ recover-from-grid-spec =
     (tie.spec
     copy-requires
     difference-all-requires
-    odd-factorial-inverses-requires
     extract-requires
     same-length
     returns
