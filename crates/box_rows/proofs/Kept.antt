@@ -1,8 +1,8 @@
 -- The numbers of a box, each kept below the bound of its cell: along a line, in a row, and by the sub-boxes of the last variable.
 use mathlib.Core.Path.{_≡_, refl, sym, _∙_, ap, ap₂}
 use mathlib.Core.List.{List, [], _∷_}
-use Prim.Native.Nat.{ℕ, zero, suc, _+_, _*_, _-_, _/_, _%_, _^_, _≤_, _<_, min}
-use native.Mathlib.Nat.{suc-ne-zero, suc-inj, mod-eq-of-lt, min-eq-left}
+use Prim.Native.Nat.{ℕ, zero, suc, _+_, _*_, _-_, _/_, _%_, _^_, _≤_, _<_}
+use native.Mathlib.Nat.{suc-ne-zero, suc-inj, mod-eq-of-lt}
 use native.Mathlib.Omega.{arith}
 use lib.Bits.{bitAnd, and-mask}
 use lib.ListN.{length}
@@ -15,23 +15,8 @@ use Rattle.theory.specs.Words.{low-bits}
 use Rattle.theory.specs.Twos.{twos-factorial}
 use Rattle.theory.specs.LastVariable.{others, final, bound-last}
 use Rattle.theory.specs.Parts.{part, part-entry, put, filled-part}
-use Rattle.theory.specs.Walks.{Walk, walk-start, walk-exponent, walk-fits, walk-less, walk-part, walk-next}
-use Rattle.box_rows.specs.Rows.{Laid, mask-less, row-mask}
-
--- ---- the mask along a line
-
--- the mask of entry i of a line
-abbrev pub LineMask : ℕ → ℕ → ℕ → Type 0
-LineMask w i mask = mask ≡ 2 ^ (w - twos (factorial i)) - 1
-
-pub line-start : (w mask : ℕ) → w ≤ 64 → mask ≡ 2 ^ min w 64 - 1 → LineMask w 0 mask
-unfolding factorial twos twosIn
-line-start w mask h e = e ∙ ap (λ (k : ℕ). 2 ^ k - 1) (omega (arith, min-eq-left h))
-
-pub line-next : (w i mask t : ℕ) → LineMask w i mask → t ≡ twos (i + 1) → LineMask w (i + 1) (mask / 2 ^ t)
-line-next w i mask t e s =
-    let less : w - twos (factorial i) - t ≡ w - twos (factorial (i + 1)) = omega (arith, s, twos-factorial i) in
-    ap (_/ 2 ^ t) e ∙ mask-less (w - twos (factorial i)) t ∙ ap (λ (k : ℕ). 2 ^ k - 1) less
+use Rattle.box_rows.specs.Walks.{Walk, walk-start, walk-exponent, walk-fits, walk-less, walk-part, walk-next}
+use Rattle.box_rows.specs.Rows.{Laid, row-mask}
 
 -- what a mask keeps
 pub masked-number : (x w mask : ℕ) → mask ≡ 2 ^ w - 1 → bitAnd x mask ≡ x % 2 ^ w

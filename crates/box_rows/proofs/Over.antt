@@ -17,10 +17,10 @@ use Rattle.meaning.specs.Factorials.{factorial, twosIn, twos}
 use Rattle.meaning.specs.Boxes.{cells, digits}
 use Rattle.meaning.specs.Values.{weight, bound}
 use Rattle.meaning.specs.Recovery.{every}
-use Rattle.theory.specs.BoxBounds.{every-cong}
+use Rattle.theory.specs.Every.{every-cong}
 use Rattle.theory.specs.LastVariable.{others, final, bound-last}
 use Rattle.theory.specs.Parts.{part, part-entry}
-use Rattle.theory.specs.Walks.{Walk, walk-start, walk-exponent, walk-fits, walk-next}
+use Rattle.box_rows.specs.Walks.{Walk, walk-start, walk-exponent, walk-fits, walk-next}
 use Rattle.box_rows.specs.Rows.{Laid, row-mask}
 use Rattle.box_rows.specs.Bounds.{isBelow}
 use Rattle.box_rows.proofs.Kept.{masked-number, line-bound, left-next}

@@ -63,7 +63,7 @@ fn bounded_box(coeffs: &[u64], degrees: &[u8], first: usize, masks: &[u64], bits
     let last = degrees.len() - 1;
     let size = coeffs.len() / (degrees[last] as usize + 1);
     let mut left = bits;
-    let mut e = 0;
+    let mut e: usize = 0;
     let mut from = 0;
     while from < coeffs.len() {
         let end = from + size;

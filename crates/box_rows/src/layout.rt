@@ -34,6 +34,16 @@ pub fn bits_left(bits: u32, n: usize) -> u32
     0
 }
 
+// A mask without the twos in n; it is the same at 0.
+pub fn next_mask(mask: u64, n: usize) -> u64
+    ensures { λ r. ⌜ r ≡ mask / 2 ^ twos n ⌝ }
+{
+    if n == 0 {
+        return mask;
+    }
+    mask >> twos_in(n)
+}
+
 // The masks of the cells of one exponent more, `size` of them from `from` on: those of the exponent before without t bits.
 fn next_cells(masks: &mut [u64], size: usize, from: usize, t: u32)
     requires { ⌜ (size ≤ from) × (from + size ≤ length (now masks)) × (t < 64) ⌝ }

@@ -60,7 +60,7 @@ fn reduce_box(table: &mut [u64], degrees: &[u8], first: usize, masks: &[u64], bi
     let last = degrees.len() - 1;
     let size = table.len() / (degrees[last] as usize + 1);
     let mut left = bits;
-    let mut e = 0;
+    let mut e: usize = 0;
     let mut from = 0;
     while from < table.len() {
         let end = from + size;

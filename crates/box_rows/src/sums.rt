@@ -70,7 +70,7 @@ fn sum_box(
     let last = degrees.len() - 1;
     let size = out.len() / (degrees[last] as usize + 1);
     let mut left = bits;
-    let mut e = 0;
+    let mut e: usize = 0;
     let mut from = 0;
     while from < out.len() {
         let end = from + size;

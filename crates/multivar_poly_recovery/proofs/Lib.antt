@@ -2,8 +2,8 @@
 pub mod CellFactors
 pub mod Cells
 pub mod Rows
-pub mod Added
-pub mod RowTables
+pub mod RowUnits
+pub mod Servings
 pub mod SubBoxes
 pub mod Whole
 pub mod Multiples

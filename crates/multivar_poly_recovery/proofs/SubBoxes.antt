@@ -10,17 +10,16 @@ use native.Mathlib.Omega.{arith}
 use lib.ListN.{length, take}
 use lib.Seq.{take-suc, take-length, take-take, length-take-le}
 use Rattle.meaning.specs.Tables.{at}
-use Rattle.meaning.specs.Factorials.{factorial, twos}
+use Rattle.meaning.specs.Factorials.{factorial, twosIn, twos}
 use Rattle.meaning.specs.Inverses.{inverse}
 use Rattle.meaning.specs.Boxes.{cells, digits}
 use Rattle.meaning.specs.Values.{weight, oddFactor}
 use Rattle.meaning.specs.Recovery.{divides, coefficient}
 use Rattle.theory.specs.Parts.{part, put, at-part, length-part, length-put}
-use Rattle.theory.specs.Tables.{at-tabulate}
-use Rattle.multivar_poly_recovery.proofs.CellFactors.{cells-last, digits-last, weight-more, inverse-more}
+use Rattle.theory.specs.Twos.{twos-factorial}
+use Rattle.multivar_poly_recovery.proofs.CellFactors.{cells-last, digits-last, inverse-more}
 use Rattle.multivar_poly_recovery.specs.Tested.{Tested, Testing, tested-cong, testing-start, testing-part, testing-done, tested-part-fails}
-use Rattle.multivar_poly_recovery.specs.Extracted.{test, number, Extracted}
-use Rattle.multivar_poly_recovery.proofs.RowTables.{Inverses, total-start, total-step}
+use Rattle.multivar_poly_recovery.specs.Extracted.{test, number, Extracted, Inverses}
 
 -- ---- the last of the degrees
 
@@ -44,58 +43,65 @@ module _ (ds : List ℕ) (last : ℕ) (e : last ≡ length ds - 1) (some : 0 < l
 pub record Layout (ds t₀ : List ℕ) (last size : ℕ) : Type 0 where
   pub split : ds ≡ take last ds ++ (at ds last ∷ [])
   pub shorter : length (take last ds) ≡ last
-  pub small : at ds last < 256
   pub whole : length t₀ ≡ suc (at ds last) * cells (take last ds)
   pub sized : size ≡ cells (take last ds)
 
-pub layout : (ds t₀ : List ℕ) → 0 < length ds → length t₀ ≡ cells ds → at ds (length ds - 1) < 256
-    → Layout ds t₀ (length ds - 1) (length t₀ / (at ds (length ds - 1) + 1))
-layout ds t₀ some fits small =
+pub layout : (ds t₀ : List ℕ) → 0 < length ds → length t₀ ≡ cells ds → Layout ds t₀ (length ds - 1) (length t₀ / (at ds (length ds - 1) + 1))
+layout ds t₀ some fits =
     record {
       split = split-last ds _ refl some;
       shorter = length-rest ds _ refl some;
-      small = small;
       whole = fits ∙ cells-split ds _ refl some;
       sized = size-eq ds _ refl some (length t₀) fits;
     }
 
 -- one exponent more
-next-inverse : (inverses : List ℕ) → Inverses inverses → (v e : ℕ) (hs : List ℕ) → e < 256 → v ≡ inverse (oddFactor hs) 64
+next-inverse : (inverses : List ℕ) → Inverses inverses → (v e : ℕ) (hs : List ℕ) → e < length inverses → v ≡ inverse (oddFactor hs) 64
     → (v * at inverses e) % 2 ^ 64 ≡ inverse (oddFactor (e ∷ hs)) 64
 next-inverse inverses table v e hs h k =
-    ap₂ (λ (a b : ℕ). (a * b) % 2 ^ 64) k (ap (λ (l : List ℕ). at l e) table ∙ at-tabulate 256 _ e h) ∙ inverse-more e hs
+    ap₂ (λ (a b : ℕ). (a * b) % 2 ^ 64) k (table e h) ∙ inverse-more e hs
+
+-- exponent 0 leaves all bits
+none-over : (left : ℕ) → left ≡ left - twos (factorial 0)
+unfolding factorial twos twosIn
+none-over left = omega arith
+
+-- one exponent more
+one-over : (w left bits e : ℕ) (hs : List ℕ) → left ≡ w - weight hs → bits ≡ left - twos (factorial e) → bits ≡ w - weight (e ∷ hs)
+unfolding weight
+one-over w left bits e hs a b = omega arith
 
 -- ---- the sub-boxes
 
 -- what extraction of a box promises
 abbrev pub Promise : ℕ → ℕ → ℕ → List ℕ → List ℕ → List ℕ → Bool → Type 0
-Promise q v w ds t₀ t r = (hs : List ℕ) → q ≡ min (weight hs) w → v ≡ inverse (oddFactor hs) 64 → Extracted w ds hs t₀ t r
+Promise left v w ds t₀ t r = (hs : List ℕ) → left ≡ w - weight hs → v ≡ inverse (oddFactor hs) 64 → Extracted w ds hs t₀ t r
 
 -- the same for the list of degrees as it was lent
-pub promise-split : (q v w : ℕ) (ds es t₀ t : List ℕ) (r : Bool) → ds ≡ es → Promise q v w es t₀ t r → Promise q v w ds t₀ t r
-promise-split q v w ds es t₀ t r e p = subst (λ (l : List ℕ). Promise q v w l t₀ t r) (sym e) p
+pub promise-split : (left v w : ℕ) (ds es t₀ t : List ℕ) (r : Bool) → ds ≡ es → Promise left v w es t₀ t r → Promise left v w ds t₀ t r
+promise-split left v w ds es t₀ t r e p = subst (λ (l : List ℕ). Promise left v w l t₀ t r) (sym e) p
 
 -- the sub-boxes before sub-box e are done
-pub record SubBoxes (q v w : ℕ) (rest : List ℕ) (d : ℕ) (t₀ t : List ℕ) (total from e : ℕ) : Type 0 where
+pub record SubBoxes (left v w : ℕ) (rest : List ℕ) (d : ℕ) (t₀ t : List ℕ) (bits from e : ℕ) : Type 0 where
   pub same : length t ≡ length t₀
   pub few : e ≤ suc d
   pub place : from ≡ e * cells rest
-  pub sum : total ≡ q + twos (factorial e)
-  pub testing : (hs : List ℕ) → q ≡ min (weight hs) w → v ≡ inverse (oddFactor hs) 64
+  pub over : bits ≡ left - twos (factorial e)
+  pub testing : (hs : List ℕ) → left ≡ w - weight hs → v ≡ inverse (oddFactor hs) 64
       → Testing (test w (rest ++ (d ∷ [])) hs t₀) (number w (rest ++ (d ∷ [])) hs t₀) t₀ t from
 
-module _ (q v w : ℕ) (rest : List ℕ) (d : ℕ) (t₀ : List ℕ) where
-  pub subBoxes-start : SubBoxes q v w rest d t₀ t₀ q 0 0
+module _ (left v w : ℕ) (rest : List ℕ) (d : ℕ) (t₀ : List ℕ) where
+  pub subBoxes-start : SubBoxes left v w rest d t₀ t₀ left 0 0
   subBoxes-start =
       record {
         same = refl;
         few = zero-le;
         place = omega arith;
-        sum = total-start q;
+        over = none-over left;
         testing = λ hs a b. testing-start _ _ t₀;
       }
 
-  module _ (t : List ℕ) (total from e : ℕ) (r : SubBoxes q v w rest d t₀ t total from e) (h : e < suc d)
+  module _ (t : List ℕ) (bits from e : ℕ) (r : SubBoxes left v w rest d t₀ t bits from e) (h : e < suc d)
       (whole : length t₀ ≡ suc d * cells rest) (size : ℕ) (sized : size ≡ cells rest) where
     -- the next sub-box fits
     pub subBox-fits : from + size ≤ length t
@@ -108,18 +114,18 @@ module _ (q v w : ℕ) (rest : List ℕ) (d : ℕ) (t₀ : List ℕ) where
         let k : from + size - from ≡ size = omega arith in
         length-part from (from + size) t subBox-fits ∙ k ∙ sized
 
-    module _ (inverses : List ℕ) (table : Inverses inverses) (below : e < 256) (k u : ℕ) (cut : k ≡ min total w) (times : u ≡ (v * at inverses e) % 2 ^ 64)
-        (ys : List ℕ) (s : Bool) (came : Promise k u w rest (part from (from + size) t) ys s) where
+    module _ (inverses : List ℕ) (table : Inverses inverses) (below : e < length inverses) (u : ℕ) (times : u ≡ (v * at inverses e) % 2 ^ 64)
+        (ys : List ℕ) (s : Bool) (came : Promise bits u w rest (part from (from + size) t) ys s) where
       -- what came back, by the numbers of the whole box
-      inside : (hs : List ℕ) → q ≡ min (weight hs) w → v ≡ inverse (oddFactor hs) 64
+      inside : (hs : List ℕ) → left ≡ w - weight hs → v ≡ inverse (oddFactor hs) 64
           → Tested (λ i. test w (rest ++ (d ∷ [])) hs t₀ (from + i)) (λ i. number w (rest ++ (d ∷ [])) hs t₀ (from + i)) (cells rest) ys s
       inside hs a b =
           tested-cong (λ i l. ap₂ (λ (es : List ℕ) (x : ℕ). divides w es (x % 2 ^ w)) (exponents i l) (read i l))
           (λ i l. ap₂ (λ (es : List ℕ) (x : ℕ). coefficient w es (x % 2 ^ w)) (exponents i l) (read i l))
           (came (e ∷ hs) weighs (times ∙ next-inverse inverses table v e hs below b))
         where
-          weighs : k ≡ min (weight (e ∷ hs)) w
-          weighs = cut ∙ ap (λ (n : ℕ). min n w) (r .sum ∙ ap (_+ twos (factorial e)) a) ∙ weight-more w e hs
+          weighs : bits ≡ w - weight (e ∷ hs)
+          weighs = one-over w left bits e hs a (r .over)
 
           exponents : (i : ℕ) → i < cells rest → digits rest i ++ (e ∷ hs) ≡ digits (rest ++ (d ∷ [])) (from + i) ++ hs
           exponents i l =
@@ -129,21 +135,21 @@ module _ (q v w : ℕ) (rest : List ℕ) (d : ℕ) (t₀ : List ℕ) where
           read i l = at-part from (from + size) t subBox-fits i (omega arith) ∙ r .testing hs a b .filled .above (from + i) (omega arith)
 
       -- a number in it does not pass
-      pub subBox-fails : (t′ : List ℕ) → s ≡ false → Promise q v w (rest ++ (d ∷ [])) t₀ t′ false
+      pub subBox-fails : (t′ : List ℕ) → s ≡ false → Promise left v w (rest ++ (d ∷ [])) t₀ t′ false
       subBox-fails t′ z hs a b =
           tested-part-fails _ _ _ t′ ys from (cells rest) _
           (rw (cells-last rest d) (omega (arith, subBox-fits, r .same)))
           (rw z at (inside hs a b))
 
       -- all pass
-      pub subBoxes-step : (n : ℕ) → length ys ≡ length (part from (from + size) t) → s ≡ true → n ≡ twos (e + 1)
-          → SubBoxes q v w rest d t₀ (put from (from + size) t ys) (total + n) (from + size) (e + 1)
+      pub subBoxes-step : (n : ℕ) → length ys ≡ length (part from (from + size) t) → s ≡ true → n ≡ bits - twos (e + 1)
+          → SubBoxes left v w rest d t₀ (put from (from + size) t ys) n (from + size) (e + 1)
       subBoxes-step n long z g =
           record {
             same = length-put from (from + size) t subBox-fits (omega arith) ys (long ∙ subBox-length ∙ sym span) ∙ r .same;
             few = omega arith;
             place = omega (arith, r .place, sized);
-            sum = total-step q total e n (r .sum) g;
+            over = omega (arith, r .over, g, twos-factorial e);
             testing =
                 λ hs a b.
                 testing-part _ _ t₀ t from (from + size) ys (r .testing hs a b) (omega arith) subBox-fits (long ∙ subBox-length ∙ sym span)
@@ -154,16 +160,7 @@ module _ (q v w : ℕ) (rest : List ℕ) (d : ℕ) (t₀ : List ℕ) where
           span = omega (arith, sized)
 
   -- all sub-boxes are done
-  pub subBoxes-done : (t : List ℕ) (total from e : ℕ) → SubBoxes q v w rest d t₀ t total from e → suc d ≤ e → Promise q v w (rest ++ (d ∷ [])) t₀ t true
-  subBoxes-done t total from e r h hs a b =
+  pub subBoxes-done : (t : List ℕ) (bits from e : ℕ) → SubBoxes left v w rest d t₀ t bits from e → suc d ≤ e → Promise left v w (rest ++ (d ∷ [])) t₀ t true
+  subBoxes-done t bits from e r h hs a b =
       testing-done _ _ t₀ t _ from (r .testing hs a b)
       (rw (cells-last rest d) (omega (arith, r .place, mul-le-mul-right (cells rest) h)))
-
--- ---- a single row
-
-pub take-whole : (ds : List ℕ) (first : ℕ) → length ds ≡ first → take first ds ≡ ds
-take-whole ds first e = ap (λ (n : ℕ). take n ds) (sym e) ∙ take-length ds
-
--- the rows of the other variables are those of all
-pub take-rest : (ds : List ℕ) (first last : ℕ) → first ≤ last → take first (take last ds) ≡ take first ds
-take-rest ds first last h = take-take first last ds h

@@ -15,7 +15,7 @@ use Rattle.meaning.specs.Tables.{tabulate, at}
 use Rattle.meaning.specs.Boxes.{cells, cell, digits, along}
 use Rattle.meaning.specs.Differences.{newton, differences, grid}
 use Rattle.meaning.specs.Recovery.{difference, every, divides, coefficient, accepts, answer}
-use Rattle.theory.specs.BoxBounds.{every-cong}
+use Rattle.theory.specs.Every.{every-cong}
 use Rattle.theory.specs.DifferenceBounds.{difference-lt}
 use Rattle.theory.specs.Tables.{length-tabulate, tabulate-cong, at-tabulate}
 use Rattle.lines.specs.declared.Transform.{Transform}

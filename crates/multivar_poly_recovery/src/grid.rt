@@ -26,8 +26,7 @@ fn recover_from_grid(values: &[u64], degrees: &[u8], bitwidth: u32, out: &mut [u
     shifts::raise(values, out, high);
     lines::transform_all(Transform::Differences, out, degrees);
     shifts::lower(out, high);
-    let inverses = math_utils::odd_factors::odd_factorial_inverses();
-    if extraction::extract(out, degrees, bitwidth, &inverses) {
+    if extraction::extract(out, degrees, bitwidth) {
         return Outcome::Accepted;
     }
     Outcome::Refused(Refusal::NotDivisible)

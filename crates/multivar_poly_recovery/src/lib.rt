@@ -9,6 +9,7 @@ ghost use Rattle.answers.specs.Said.{saidNumber};
 mod extraction;
 mod grid;
 mod shifts;
+mod units;
 
 use answers::Outcome;
 

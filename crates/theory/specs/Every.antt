@@ -1,5 +1,5 @@
 -- A test of all numbers below a bound, and the search for the least number below a bound at which a statement fails.
-use mathlib.Core.Path.{_≡_, sym, subst}
+use mathlib.Core.Path.{_≡_, refl, sym, ap₂, subst}
 use mathlib.Core.Bool.{Bool, true, false, _&&_}
 use mathlib.Core.Logic.{_⊎_, inl, inr, ⊎-elim, _↔_}
 use Prim.Native.Nat.{ℕ, zero, suc, _<_, suc-le-suc}
@@ -20,6 +20,12 @@ below-suc P n p f (suc i) h = f i (le-of-suc-le-suc h)
 -- what holds of n, and of i where it is below n, holds of i below n + 1
 pub last : (P : ℕ → Type 0) {n : ℕ} (i : ℕ) → i < suc n → P n → (i < n → P i) → P i
 last P {n} i p h k = ⊎-elim (λ (e : i ≡ n). subst P (sym e) h) k (eq-or-lt-of-le (le-of-suc-le-suc p))
+
+-- two tests with the same answers
+pub every-cong : (n : ℕ) {p q : ℕ → Bool} → ((i : ℕ) → i < n → p i ≡ q i) → every n p ≡ every n q
+unfolding every
+every-cong zero h = refl
+every-cong (suc n) h = ap₂ _&&_ (h 0 (zero-lt-suc n)) (every-cong n (λ i r. h (suc i) (suc-le-suc r)))
 
 -- a test of all numbers below n holds exactly when it holds of each
 pub every-iff : (n : ℕ) (p : ℕ → Bool) → T (every n p) ↔ ((i : ℕ) → i < n → T (p i))

@@ -32,10 +32,6 @@ pub mod DecidingGrids
 pub mod OpenGrids
 pub mod ConversionLaws
 pub mod LastVariable
-pub mod Walks
-pub mod BoxValues
-pub mod BoxBounds
-pub mod SameLists
 pub mod AcceptedCalls
 pub mod Trailing
 pub mod OneEquation

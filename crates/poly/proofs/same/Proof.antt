@@ -8,7 +8,7 @@ use borrow.Author.Tests.{eq-eqb, ne-eqb, not-true, not-false}
 use Rattle.meaning.specs.Settings.{cube}
 use Rattle.meaning.specs.Calls.{formNumber, sameList}
 use Rattle.answers.specs.Said.{saidNumber}
-use Rattle.theory.specs.SameLists.{same-cubes}
+use Rattle.poly.proofs.SameLists.{same-cubes}
 use Rattle.settings.specs.Forms.{cubeForm}
 use Rattle.poly.proofs.Replies.{same-first, same-second, same-accepted, form-filled, no-1, no-2, no-3, no-4, no-5}
 use Rattle.poly.proofs.same.Statement.{statement}

@@ -6,7 +6,7 @@ use Prim.Native.Nat.{_-_, _≤_}
 use native.Mathlib.Omega.{arith}
 use lib.ListN.{length, drop}
 use Rattle.meaning.specs.Calls.{sameList}
-use Rattle.theory.specs.SameLists.{same-lengths, same-next, same-differ, same-end}
+use Rattle.poly.proofs.SameLists.{same-lengths, same-next, same-differ, same-end}
 use Rattle.poly.proofs.same_list.Tie as tie
 
 abbrev Inv-loop : tie.InvT-loop

@@ -18,7 +18,7 @@ use lib.Bits.{bitAnd}
 use native.Mathlib.Omega.{arith}
 use Rattle.meaning.specs.Values.{value}
 use Rattle.theory.specs.Ranges.{width-high}
-use Rattle.theory.specs.BoxValues.{value-masked}
+use Rattle.poly.proofs.BoxValues.{value-masked}
 use Rattle.poly.proofs.value.Statement.{statement}
 use Rattle.poly.proofs.value.Tie as tie
 

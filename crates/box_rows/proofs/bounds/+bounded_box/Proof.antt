@@ -8,7 +8,7 @@ use native.Mathlib.Omega.{arith}
 use lib.ListN.{length}
 use Rattle.theory.specs.LastVariable.{final, length-others}
 use Rattle.box_rows.specs.Rows.{rowed-whole, rowed-others}
-use Rattle.theory.specs.Walks.{walk-exponent, walk-less, walk-part}
+use Rattle.box_rows.specs.Walks.{walk-exponent, walk-less, walk-part}
 use Rattle.box_rows.proofs.Over.{bounded-none, bounded-one, Passed, passed-start, passed-fits, passed-few, passed-fails, passed-next, passed-done}
 use borrow.Fn.Kinds.{In}
 use borrow.Fn.PlainCycle.{Measures, is, falls, and}

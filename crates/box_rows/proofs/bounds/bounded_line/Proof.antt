@@ -9,7 +9,7 @@ use Rattle.meaning.specs.Tables.{at}
 use Rattle.meaning.specs.Factorials.{factorial, twos}
 use lib.Bits.{and-le-l}
 use lib.Dec.{ltb}
-use Rattle.box_rows.proofs.Kept.{LineMask, line-start, line-next}
+use Rattle.box_rows.specs.Lines.{LineMask, line-start, line-next}
 use Rattle.box_rows.proofs.Over.{Over, over-start, over-next}
 use Rattle.box_rows.proofs.bounds.bounded_line.Statement.{statement}
 use Rattle.box_rows.proofs.bounds.bounded_line.Tie as tie

@@ -8,7 +8,8 @@ use lib.ListN.{length, length-set}
 use Rattle.meaning.specs.Tables.{at}
 use Rattle.meaning.specs.Factorials.{factorial, twos}
 use Rattle.theory.specs.Tables.{Filled, filled-start, filled-step, filled-done}
-use Rattle.box_rows.proofs.Kept.{LineMask, line-start, line-next, masked-number}
+use Rattle.box_rows.specs.Lines.{LineMask, line-start, line-next}
+use Rattle.box_rows.proofs.Kept.{masked-number}
 use Rattle.box_rows.proofs.reductions.reduce_line.Statement.{statement}
 use Rattle.box_rows.proofs.reductions.reduce_line.Tie as tie
 

@@ -16,7 +16,7 @@ use Rattle.multivar_poly_recovery.proofs.grid.recover_from_grid.Tie as 
 
 -- the steps, from the last one back to the start
 abbrev lowered : tie.After-extract → tie.After-lower
-lowered c = c .before .before .before .before .before .before
+lowered c = c .before .before .before .before
 
 abbrev differenced : tie.After-lower → tie.After-transform-all
 differenced c = c .before .before .before .before
@@ -52,7 +52,7 @@ recover-from-grid-spec =
     (λ c κs. let p = c .before .before .before .before .pre in (omega (arith, p .2), p .0 ∙ sym (p .1)))
     (λ c κs. search needs)
     (λ c κs. let p = start (raised (c .before .before .before)) .pre in omega (arith, p .2))
-    (λ c κs. search needs) (λ c κs. search needs) (λ c. search needs)
+    (λ c κs. search needs) (λ c. search needs)
     (λ c. let s = steps (c .before .before .before) in (ap (λ (b : Bool). cond b 0 6) (sym (c .if1 .taken) ∙ s .0), s .1))
     (λ c. search needs)
     (λ c. let s = steps (c .before .before .before) in (ap (λ (b : Bool). cond b 0 6) (sym (c .if1 .left) ∙ s .0), s .1)))

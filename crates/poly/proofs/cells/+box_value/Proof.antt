@@ -7,8 +7,8 @@ use lib.ListN.{length}
 use Rattle.theory.specs.Boxes.{cells-pos}
 use Rattle.theory.specs.LastVariable.{length-others}
 use lib.Pow.{pow-pos}
-use Rattle.theory.specs.Walks.{Walk, walk-start, walk-exponent, walk-fits, walk-less, walk-part, walk-next}
-use Rattle.theory.specs.BoxValues.{Summed, summed-start, summed-next, summed-done, value-none}
+use Rattle.box_rows.specs.Walks.{Walk, walk-start, walk-exponent, walk-fits, walk-less, walk-part, walk-next}
+use Rattle.poly.proofs.BoxValues.{Summed, summed-start, summed-next, summed-done, value-none}
 use borrow.Fn.Kinds.{In}
 use borrow.Fn.PlainCycle.{Measures, is, falls, and}
 use Rattle.poly.proofs.cells.box_value.Reads as box-value

@@ -12,12 +12,12 @@ use Rattle.meaning.specs.Sums.{sum}
 use Rattle.meaning.specs.Factorials.{falling}
 use Rattle.meaning.specs.Boxes.{cells, digits}
 use Rattle.meaning.specs.Values.{product, value}
 use Rattle.theory.specs.Congruence.{Cong, cong-of-eq, cong-refl, cong-trans, cong-add, cong-mul, mod-cong}
 use Rattle.theory.specs.Sums.{sum-last}
 use Rattle.theory.specs.Words.{masked-to}
 use Rattle.theory.specs.LastVariable.{others, addend, value-last}
 use Rattle.theory.specs.Parts.{part}
-use Rattle.theory.specs.Walks.{Walk, walk-done}
+use Rattle.box_rows.specs.Walks.{Walk, walk-done}
 
 -- without variables it is the one coefficient
 pub value-none : (m : ℕ) (ds c xs : List ℕ) → length ds ≡ 0 → at c 0 < m → at c 0 ≡ value m ds c xs
