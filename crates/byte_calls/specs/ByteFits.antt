@@ -11,7 +11,7 @@ use borrow.Author.Tests.{eq-eqb, eqb-true, lt-ltb, le-ltb, ltb-true, ltb-false}
 use Rattle.meaning.specs.Tables.{tabulate}
 use Rattle.meaning.specs.Boxes.{cells}
 use Rattle.meaning.specs.Replies.{Reply, refused}
-use Rattle.meaning.specs.Settings.{cube, first}
+use Rattle.meaning.specs.Settings.{byteLimit, cube, first}
 use Rattle.meaning.specs.Calls.{reply, left}
 use Rattle.meaning.specs.Fit.{Fit, fitOf, fitRows, fitColumns, fitCause, fitNumber, fitReply, fitOut, fitState, fitSucceeds, fitAnswer, degreeUsed}
 use Rattle.answers.specs.declared.Refusal.{Refusal}
@@ -51,18 +51,18 @@ module _ (count total w : ℕ) (support : List ℕ) (most grid : ℕ) (weights t
 
   module _ {rows : ℕ} (b : Boxed false count total w support (cube (decoded support) grid) rows) where
     -- what is left where they pass
-    cause : (x : Bool) → ltb 4096 entries ≡ x → (y : Bool) → lengths ≡ y
+    cause : (x : Bool) → ltb byteLimit entries ≡ x → (y : Bool) → lengths ≡ y
         → fitBytesCause count support weights targets out asked ≡ first (cond x 8 0) (cond y 0 9)
     unfolding fitBytesCause
     cause x e y q = ap₂ first (b .number) (ap₂ (λ (x y : Bool). first (cond x 8 0) (cond y 0 9)) e q)
 
     -- a matrix that is too large
-    pub fit-large : (r : Refusal) → code r ≡ 8 → 4096 < entries → Turned count support weights targets out asked (code r)
-    fit-large r q h = turned r (cause true (lt-ltb 4096 entries h) lengths refl ∙ sym q)
+    pub fit-large : (r : Refusal) → code r ≡ 8 → byteLimit < entries → Turned count support weights targets out asked (code r)
+    fit-large r q h = turned r (cause true (lt-ltb byteLimit entries h) lengths refl ∙ sym q)
 
     -- a wrong length
-    pub fit-lengths : (r : Refusal) → code r ≡ 9 → entries ≤ 4096 → lengths ≡ false → Turned count support weights targets out asked (code r)
-    fit-lengths r q h e = turned r (cause false (le-ltb 4096 entries h) false e ∙ sym q)
+    pub fit-lengths : (r : Refusal) → code r ≡ 9 → entries ≤ byteLimit → lengths ≡ false → Turned count support weights targets out asked (code r)
+    fit-lengths r q h e = turned r (cause false (le-ltb byteLimit entries h) false e ∙ sym q)
 
     size : sizeCause (fitSettings total w (decoded support) most grid) ≡ cond (ltb 65536 entries) 8 0
     size = ap (λ (n : ℕ). first n (cond (ltb 65536 entries) 8 0)) (b .settles .passes)
@@ -98,7 +98,7 @@ module _ (count total w : ℕ) (support : List ℕ) (most grid : ℕ) (weights t
           by-cases false q = absurd (suc-ne-zero (pred (code r)) (sym (code-suc r) ∙ sym told ∙ ap (λ (x : Bool). cond x 8 0) q))
 
     -- the call on the tables, with room of the exact sizes
-    module _ (small : entries ≤ 4096) (hw : holds weights (fitRows asked) ≡ true) (ht : holds targets (fitRows asked) ≡ true)
+    module _ (small : entries ≤ byteLimit) (hw : holds weights (fitRows asked) ≡ true) (ht : holds targets (fitRows asked) ≡ true)
         (ho : holds out (cells (asked .degrees)) ≡ true) (matrix right found : List ℕ) (lm : length matrix ≡ entries)
         (lr : length right ≡ fitRows asked) (lf : length found ≡ cells (asked .degrees)) where
       abbrev lent : Fit
@@ -115,7 +115,7 @@ module _ (count total w : ℕ) (support : List ℕ) (most grid : ℕ) (weights t
           (ap₂ _&&_ (ap₂ _&&_ (ap₂ _&&_ (ap₂ _&&_ (long weights hw) (long targets ht)) (eq-eqb _ _ lm)) (eq-eqb _ _ lr)) (eq-eqb _ _ lf)))
 
       held-cause : fitBytesCause count support weights targets out asked ≡ 0
-      held-cause = cause false (le-ltb 4096 entries small) true (ap₂ _&&_ (ap₂ _&&_ hw ht) ho)
+      held-cause = cause false (le-ltb byteLimit entries small) true (ap₂ _&&_ (ap₂ _&&_ hw ht) ho)
 
       pub fit-done : {r : Reply} {t : List ℕ} → r ≡ fitReply lent → t ≡ encoded (fitOut lent)
           → (r ≡ fitBytesReply count support weights targets out asked) × (t ≡ fitBytesLeft count support weights targets out asked)

@@ -72,7 +72,7 @@ pub record Boxed (strict : Bool) (count total w : ℕ) (support ds : List ℕ) (
   pub number : boxNumber strict count total w support ds ≡ 0
   pub settles : Settled strict total (widthFits w) (decoded support) ds n
   pub bytes : length support ≡ count * 8
-  pub small : n ≤ 4096
+  pub small : n ≤ byteLimit
   pub few : count ≤ 20
 
 module _ (strict : Bool) (count total w : ℕ) (support ds : List ℕ) {answer : Number}

@@ -2,7 +2,7 @@
 ghost use mathlib.Core.Path.{_≡_};
 ghost use Prim.Native.Nat.{_*_, _≤_, _<_};
 ghost use lib.ListN.{length};
-ghost use Rattle.meaning.specs.Settings.{cube};
+ghost use Rattle.meaning.specs.Settings.{byteLimit, cube};
 ghost use Rattle.meaning.specs.Calls.{recoveryNumber, recoveryLeft, valueReply};
 ghost use Rattle.answers.specs.Said.{said, saidNumber};
 ghost use Rattle.byte_calls.specs.Bytes.{decoded, encoded};
@@ -95,7 +95,7 @@ pub(crate) fn recover_large(
     out: &mut [u8],
 ) -> Outcome
     requires { ⌜ (length (now support) ≡ count * 8) × (length (now values) ≡ cells * 8) × (length (now out) ≡ cells * 8) ⌝ }
-    requires { ⌜ (count ≤ 20) × (64 < cells) × (cells ≤ 4096) ⌝ }
+    requires { ⌜ (count ≤ 20) × (64 < cells) × (cells ≤ byteLimit) ⌝ }
     ensures says { λ r. ⌜ saidNumber r ≡ recoveryNumber total width (decoded (now (support .entry))) (cube (decoded (now (support .entry))) degree)
         (decoded (now (values .entry))) (zeros cells) ⌝ }
     ensures leaves { λ r. ⌜ now (out .exit) ≡ encoded (recoveryLeft total width (decoded (now (support .entry))) (cube (decoded
@@ -110,8 +110,8 @@ pub(crate) fn recover_large(
     let known = count as usize;
     let size = cells as usize;
     let mut indices = [0u64; 20];
-    let mut given = [0u64; 4096];
-    let mut found = [0u64; 4096];
+    let mut given = [0u64; settings::BYTE_LIMIT as usize];
+    let mut found = [0u64; settings::BYTE_LIMIT as usize];
     recover_in(
         values,
         support,
@@ -195,7 +195,7 @@ pub(crate) fn value_large(
     indices: &mut [u64],
 ) -> Number
     requires { ⌜ (length (now support) ≡ length (now indices) * 8) × (length (now coeffs) ≡ cells * 8) × (length (now point) ≡ count * 8) ⌝ }
-    requires { ⌜ (count ≤ 20) × (64 < cells) × (cells ≤ 4096) ⌝ }
+    requires { ⌜ (count ≤ 20) × (64 < cells) × (cells ≤ byteLimit) ⌝ }
     ensures { λ r. ⌜ said r ≡ valueReply total width (decoded (now (support .entry))) (cube (decoded (now (support .entry))) degree)
         (decoded (now (coeffs .entry))) (decoded (now (point .entry))) ⌝ }
 {
@@ -216,7 +216,7 @@ pub(crate) fn value_large(
     }
     let known = count as usize;
     let size = cells as usize;
-    let mut given = [0u64; 4096];
+    let mut given = [0u64; settings::BYTE_LIMIT as usize];
     let mut coordinates = [0u64; 20];
     value_in(
         coeffs,

@@ -2,6 +2,7 @@
 ghost use mathlib.Core.Path.{_≡_};
 ghost use Prim.Native.Nat.{_*_, _≤_, _<_};
 ghost use lib.ListN.{length};
+ghost use Rattle.meaning.specs.Settings.{byteLimit};
 ghost use Rattle.meaning.specs.Fit.{fitOf, fitReply, fitOut};
 ghost use Rattle.answers.specs.Said.{said};
 ghost use Rattle.weighted_poly_fit.specs.Sizes.{fitSettings, columnsReply};
@@ -137,7 +138,7 @@ pub(crate) fn fit_large(
     out: &mut [u8],
 ) -> Number
     requires { ⌜ (length (now support) ≡ count * 8) × (length (now weights) ≡ rows * 8) × (length (now targets) ≡ rows * 8) × (length (now out) ≡ cells * 8) ⌝ }
-    requires { ⌜ (count ≤ 20) × (rows ≤ 4096) × (rows * cols ≤ 4096) × (cells ≤ 4096) × (128 < rows * cols) ⌝ }
+    requires { ⌜ (count ≤ 20) × (rows ≤ byteLimit) × (rows * cols ≤ byteLimit) × (cells ≤ byteLimit) × (128 < rows * cols) ⌝ }
     ensures says { λ r. ⌜ said r ≡ fitReply (fitOf total width (decoded (now (support .entry))) «max_degree» «grid_degree» (decoded (now (weights .entry)))
         (decoded (now (targets .entry))) (zeros (rows * cols)) (zeros rows) (zeros cells)) ⌝ }
     ensures leaves { λ r. ⌜ now (out .exit) ≡ encoded (fitOut (fitOf total width (decoded (now (support .entry))) «max_degree» «grid_degree»
@@ -163,11 +164,11 @@ pub(crate) fn fit_large(
         return never;
     }
     let mut indices = [0u64; 20];
-    let mut factors = [0u64; 4096];
-    let mut wanted = [0u64; 4096];
-    let mut matrix = [0u64; 4096];
-    let mut right = [0u64; 4096];
-    let mut found = [0u64; 4096];
+    let mut factors = [0u64; settings::BYTE_LIMIT as usize];
+    let mut wanted = [0u64; settings::BYTE_LIMIT as usize];
+    let mut matrix = [0u64; settings::BYTE_LIMIT as usize];
+    let mut right = [0u64; settings::BYTE_LIMIT as usize];
+    let mut found = [0u64; settings::BYTE_LIMIT as usize];
     let known = count as usize;
     let points = rows as usize;
     let size = entries as usize;

@@ -13,7 +13,7 @@ use lib.ListN.{length, take, replicate}
 use lib.Seq.{length-take-le}
 use Rattle.meaning.specs.Boxes.{cells}
 use Rattle.meaning.specs.Replies.{Reply}
-use Rattle.meaning.specs.Settings.{cube}
+use Rattle.meaning.specs.Settings.{byteLimit, cube}
 use Rattle.meaning.specs.Fit.{Fit, fitOf, fitRows, fitColumns, fitReply, fitOut}
 use Rattle.settings.specs.Causes.{take-cube}
 use Rattle.theory.specs.FitSizes.{cells-cube-le, columns-pos}
@@ -36,7 +36,7 @@ entries s = ap₂ _*_ (s .pre .0 .settles .counted) (s .pre .1 .0)
 abbrev start : tie.Else1 → tie.Start
 start c = c .before .before .before .before .before
 
-small : (c : tie.Else1) → fitRows (asked (start c)) * length (fitColumns (asked (start c))) ≤ 4096
+small : (c : tie.Else1) → fitRows (asked (start c)) * length (fitColumns (asked (start c))) ≤ byteLimit
 small c = le-trans (le-of-eq (sym (entries (start c)))) (c .if1 .left)
 
 -- the cells of the answer's box, which are no more than the grid's
@@ -48,7 +48,7 @@ box-le-rows s =
     let k = s .args in
     le-trans (cells-cube-le (length (decoded (now (k .support)))) (k .max-degree) (k .grid-degree)) (le-of-eq (sym (s .pre .0 .settles .counted)))
 
-box-le : (s : tie.Start) → cells (asked s .degrees) ≤ 4096
+box-le : (s : tie.Start) → cells (asked s .degrees) ≤ byteLimit
 box-le s = le-trans (box-le-rows s) (s .pre .0 .small)
 
 -- the rows are no more than the entries, since there is a column

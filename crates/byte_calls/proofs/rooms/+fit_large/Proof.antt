@@ -3,6 +3,7 @@ use Prim.Native.Nat.{ℕ, _<_, _*_}
 use mathlib.Core.Path.{_∙_, ap}
 use borrow.Author.Needs.{needs}
 use borrow.Fn.PlainCycle.{Measures, is, falls, and}
+use Rattle.meaning.specs.Settings.{byteLimit}
 use Rattle.byte_calls.specs.TableLaws.{room, not-most}
 use Rattle.byte_calls.specs.ByteFits.{lent-fitted}
 use Rattle.byte_calls.proofs.rooms.fit_large.Reads as reads
@@ -30,20 +31,20 @@ pub +fit-large-spec : {M : Type 1} → statement M
     (λ c. search needs)
     (λ c. let e = c .before .before .before .before in not-most _ 128 (e .if1 .taken) (e .before .before .before .before .before .pre .1 .1 .4))
     (λ c. search needs) (λ c. room _ 20 (c .before .before .before .before .before .before .pre .1 .1 .0))
-    (λ c. search needs) (λ c. room _ 4096 (c .before .before .before .before .before .before .before .pre .1 .1 .1))
-    (λ c. search needs) (λ c. room _ 4096 (c .before .before .before .before .before .before .before .before .pre .1 .1 .1))
-    (λ c. search needs) (λ c. room _ 4096 (c .before .before .before .before .before .before .before .before .before .pre .1 .1 .2))
-    (λ c. search needs) (λ c. room _ 4096 (c .before .before .before .before .before .before .before .before .before .before .pre .1 .1 .1))
-    (λ c. search needs) (λ c. room _ 4096 (c .before .before .before .before .before .before .before .before .before .before .before .pre .1 .1 .3))
+    (λ c. search needs) (λ c. room _ byteLimit (c .before .before .before .before .before .before .before .pre .1 .1 .1))
+    (λ c. search needs) (λ c. room _ byteLimit (c .before .before .before .before .before .before .before .before .pre .1 .1 .1))
+    (λ c. search needs) (λ c. room _ byteLimit (c .before .before .before .before .before .before .before .before .before .pre .1 .1 .2))
+    (λ c. search needs) (λ c. room _ byteLimit (c .before .before .before .before .before .before .before .before .before .before .pre .1 .1 .1))
+    (λ c. search needs) (λ c. room _ byteLimit (c .before .before .before .before .before .before .before .before .before .before .before .pre .1 .1 .3))
     (λ c κs.
     let p = c .before .before .before .before .before .before .before .before .before .before .before .before .pre .1 in (
       p .0 .0 ∙ ap (_* 8) (room _ 20 (p .1 .0)),
-      p .0 .1 ∙ ap (_* 8) (room _ 4096 (p .1 .1)),
-      p .0 .2 ∙ ap (_* 8) (room _ 4096 (p .1 .1)),
-      p .0 .3 ∙ ap (_* 8) (room _ 4096 (p .1 .3)),
+      p .0 .1 ∙ ap (_* 8) (room _ byteLimit (p .1 .1)),
+      p .0 .2 ∙ ap (_* 8) (room _ byteLimit (p .1 .1)),
+      p .0 .3 ∙ ap (_* 8) (room _ byteLimit (p .1 .3)),
     ))
     (λ c. search needs)
     (λ c.
     let r = c .before .before .before .before .before .before .before .before in
     let p = r .before .before .before .before .before .before .before .before .before .before .before .before .before .pre .1 .1 in
-    lent-fitted _ _ _ _ _ _ _ _ _ _ 4096 (p .2) (p .1) (p .3) (r .fit-in .ensures))
+    lent-fitted _ _ _ _ _ _ _ _ _ _ byteLimit (p .2) (p .1) (p .3) (r .fit-in .ensures))
