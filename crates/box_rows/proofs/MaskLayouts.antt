@@ -20,7 +20,7 @@ use Rattle.theory.specs.Tables.{Filled, filled-step, filled-part, tabulate-cong
 use Rattle.theory.specs.Twos.{twos-factorial, twos-oddPart, oddPart-odd}
 use Rattle.theory.specs.LastVariable.{cells-snoc, weight-append}
 use Rattle.box_rows.specs.Rows.{maskAt, laidOut, rowVariables, row-next, row-stop, mask-less}
-use Rattle.box_rows.specs.Layouts.{cellNumber, at-exponent, Adding, adding-behind, adding-step}
+use Rattle.box_rows.specs.Layouts.{cellNumber, at-exponent, Adding, adding-step}
 
 -- the mask of a cell with the given exponents
 abbrev pub mask : List ℕ → ℕ

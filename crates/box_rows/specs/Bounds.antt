@@ -4,7 +4,7 @@ use mathlib.Core.List.{List}
 use Prim.Native.Nat.{ℕ}
 use lib.Dec.{ltb}
 use Rattle.meaning.specs.Tables.{at}
-use Rattle.meaning.specs.Boxes.{cells, digits}
+use Rattle.meaning.specs.Boxes.{digits}
 use Rattle.meaning.specs.Values.{bound}
 
 -- the coefficient of cell n is below its bound at width w

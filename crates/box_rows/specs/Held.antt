@@ -1,5 +1,5 @@
 -- What the calls leave and answer for tables of a box, one number for each cell, of 65,536 cells at most, and widths to 64.
-use mathlib.Core.Path.{_≡_, refl, sym, _∙_, ap, ap₂}
+use mathlib.Core.Path.{_≡_, sym, _∙_, ap, ap₂}
 use mathlib.Core.Bool.{Bool, true, _&&_, cond}
 use mathlib.Core.List.{List}
 use Prim.Native.Nat.{ℕ, _≤_, min}

@@ -8,7 +8,7 @@ use native.Mathlib.Omega.{arith}
 use lib.ListN.{length}
 use Rattle.meaning.specs.Boxes.{cells, digits}
 use Rattle.theory.specs.Tables.{Filled}
-use Rattle.theory.specs.LastVariable.{cells-snoc, digits-snoc}
+use Rattle.theory.specs.LastVariable.{digits-snoc}
 
 -- the number of cell n of the box of ds
 abbrev pub cellNumber : (List ℕ → ℕ) → List ℕ → ℕ → ℕ

@@ -1,24 +1,21 @@
 -- The masks of the cells of a row, which is the box of the first variables.
-use mathlib.Core.Path.{_≡_, refl, sym, _∙_, ap, ap₂}
+use mathlib.Core.Path.{_≡_, refl, sym, _∙_, ap}
 use mathlib.Core.Bool.{Bool, true, false, _&&_, cond, true≢false}
-use mathlib.Core.List.{List, [], _∷_, _++_, append-nil}
-use Prim.Native.Nat.{ℕ, zero, suc, _+_, _*_, _-_, _/_, _%_, _^_, _≤_, _<_, min}
-use native.Mathlib.Nat.{div-eq-of-lt, zero-lt-suc, mul-assoc, mul-one, mul-comm, mul-le-mul-right, lt-of-not-le}
-use native.Mathlib.Numerals.{add-one}
+use mathlib.Core.List.{List, [], _∷_}
+use Prim.Native.Nat.{ℕ, suc, _*_, _-_, _/_, _^_, _≤_, _<_, min}
+use native.Mathlib.Nat.{div-eq-of-lt, mul-assoc, mul-comm, lt-of-not-le}
 use native.Mathlib.Decide.{decLe}
 use native.Mathlib.Omega.{arith}
 use lib.Dec.{leb, eqb, ltb}
 use lib.Pow.{pow-pos, pow-lt}
-use lib.ListN.{length, take, drop, set}
+use lib.ListN.{length, take}
 use lib.Seq.{take-length, take-take}
 use borrow.Author.Tests.{leb-true, le-leb, lt-leb, lt-ltb, ne-eqb, eqb-true}
 use Rattle.meaning.specs.Tables.{at, tabulate}
-use Rattle.meaning.specs.Factorials.{factorial, twosIn, twos}
 use Rattle.meaning.specs.Boxes.{cells, digits}
 use Rattle.meaning.specs.Values.{weight, bound}
 use Rattle.theory.specs.Tables.{at-tabulate, length-tabulate}
 use Rattle.theory.specs.Words.{mask-shifted}
-use Rattle.theory.specs.Twos.{twos-factorial}
 use Rattle.theory.specs.LastVariable.{others, length-others}
 
 -- a box of 65,536 cells at most, and n of them

@@ -1,5 +1,5 @@
 -- The inverses of the cells of a row, from exponent to exponent of a variable, and from variable to variable.
-use mathlib.Core.Path.{_≡_, refl, sym, _∙_, ap, ap₂}
+use mathlib.Core.Path.{_≡_, refl, sym, _∙_, ap}
 use mathlib.Core.Bool.{Bool, true, false, _&&_, true≢false}
 use mathlib.Core.List.{List, [], _∷_, _++_}
 use Prim.Native.Nat.{ℕ, zero, suc, _+_, _*_, _-_, _%_, _^_, _≤_, _<_}
@@ -22,7 +22,7 @@ use Rattle.theory.specs.Inverses.{inverse-unique}
 use Rattle.theory.specs.Tables.{Filled, filled-step}
 use Rattle.theory.specs.LastVariable.{cells-snoc}
 use Rattle.multivar_poly_recovery.proofs.CellFactors.{inverse-parts}
-use Rattle.box_rows.specs.Layouts.{cellNumber, at-exponent, Adding, adding-behind, adding-step}
+use Rattle.box_rows.specs.Layouts.{cellNumber, at-exponent, Adding, adding-step}
 use Rattle.multivar_poly_recovery.specs.Extracted.{Inverses, Reaching, unitAt, below16}
 
 -- the inverse of a cell with the given exponents

@@ -9,7 +9,7 @@ use native.Mathlib.Omega.{arith}
 use lib.Dec.{T, eqb}
 use lib.ListN.{length, set, length-set}
 use Rattle.meaning.specs.Tables.{at}
-use Rattle.meaning.specs.Factorials.{factorial, twos, oddPart}
+use Rattle.meaning.specs.Factorials.{factorial, twos}
 use Rattle.meaning.specs.Inverses.{inverse}
 use Rattle.meaning.specs.Boxes.{cells, digits}
 use Rattle.meaning.specs.Values.{weight, oddFactor, bound}

@@ -1,7 +1,7 @@
 -- The tables that serve a box, for a single row, a line, and the sub-boxes of the last variable.
 use mathlib.Core.Path.{_≡_, refl, sym, _∙_, ap}
 use mathlib.Core.List.{List, [], _∷_}
-use Prim.Native.Nat.{ℕ, zero, suc, _-_, _^_, _≤_, _<_}
+use Prim.Native.Nat.{ℕ, suc, _-_, _≤_, _<_}
 use native.Mathlib.Nat.{suc-ne-zero, suc-inj}
 use native.Mathlib.Omega.{arith}
 use lib.ListN.{length, take}
@@ -12,8 +12,8 @@ use Rattle.meaning.specs.Inverses.{inverse}
 use Rattle.theory.specs.Tables.{at-tabulate, length-tabulate}
 use Rattle.meaning.specs.Boxes.{cells, digits}
 use Rattle.meaning.specs.Values.{weight, bound}
-use Rattle.box_rows.specs.Rows.{Laid, Rowed, rowed-whole, rowed-others, rowed-alone}
-use Rattle.multivar_poly_recovery.specs.Extracted.{Mask, Row, Inverses, Reaching, Serving, unitAt}
+use Rattle.box_rows.specs.Rows.{Laid, rowed-whole, rowed-others, rowed-alone}
+use Rattle.multivar_poly_recovery.specs.Extracted.{Mask, Row, Inverses, Reaching, Serving}
 use Rattle.multivar_poly_recovery.proofs.RowUnits.{no-unit}
 
 -- the masks of a row are masks

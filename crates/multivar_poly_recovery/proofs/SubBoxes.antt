@@ -3,12 +3,12 @@
 use mathlib.Core.Path.{_≡_, refl, sym, _∙_, ap, ap₂, subst}
 use mathlib.Core.Bool.{Bool, true, false}
 use mathlib.Core.List.{List, [], _∷_, _++_}
-use Prim.Native.Nat.{ℕ, suc, _+_, _*_, _-_, _/_, _%_, _^_, _≤_, _<_, min, zero-le}
+use Prim.Native.Nat.{ℕ, suc, _+_, _*_, _-_, _/_, _%_, _^_, _≤_, _<_, zero-le}
 use native.Mathlib.Nat.{zero-lt-suc, mul-div-cancel-left, mul-le-mul-right}
 use native.Mathlib.Numerals.{add-one}
 use native.Mathlib.Omega.{arith}
 use lib.ListN.{length, take}
-use lib.Seq.{take-suc, take-length, take-take, length-take-le}
+use lib.Seq.{take-suc, take-length, length-take-le}
 use Rattle.meaning.specs.Tables.{at}
 use Rattle.meaning.specs.Factorials.{factorial, twosIn, twos}
 use Rattle.meaning.specs.Inverses.{inverse}

@@ -1,6 +1,6 @@
 -- Where the length is right the test of the box decides, else it is a no.
 use borrow.Author.Needs.{needs}
-use mathlib.Core.Path.{_≡_, sym, _∙_, ap, ap₂}
+use mathlib.Core.Path.{sym, _∙_, ap}
 use mathlib.Core.Bool.{Bool, _&&_}
 use Prim.Native.Nat.{ℕ, min}
 use native.Mathlib.Omega.{arith}

@@ -1,10 +1,9 @@
 -- The loop: nothing is over exactly if the first i numbers pass, and the mask is that of entry i.
 use borrow.Author.Needs.{needs}
-use mathlib.Core.Path.{_≡_, refl, sym, _∙_, ap}
-use Prim.Native.Nat.{ℕ, _-_, _^_, _≤_}
+use mathlib.Core.Path.{_≡_, refl}
+use Prim.Native.Nat.{_-_, _^_, _≤_}
 use native.Mathlib.Omega.{arith}
-use lib.Bits.{bitAnd}
-use lib.ListN.{length, length-set}
+use lib.ListN.{length}
 use Rattle.meaning.specs.Tables.{at}
 use Rattle.meaning.specs.Factorials.{factorial, twos}
 use lib.Bits.{and-le-l}

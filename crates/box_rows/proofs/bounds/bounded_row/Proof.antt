@@ -1,12 +1,7 @@
 -- The loop: with the masks of a box, nothing is over exactly if the first i numbers are below their bounds.
 use borrow.Author.Needs.{needs}
-use mathlib.Core.Path.{_≡_, refl, sym, _∙_, ap}
 use Prim.Native.Nat.{_-_}
-use native.Mathlib.Omega.{arith}
-use lib.Bits.{bitAnd}
-use lib.ListN.{length, length-set}
-use Rattle.meaning.specs.Tables.{at}
-use Rattle.meaning.specs.Factorials.{factorial, twos}
+use lib.ListN.{length}
 use lib.Bits.{and-le-l}
 use Rattle.box_rows.proofs.Over.{OverRow, row-start, row-step, row-done}
 use Rattle.box_rows.proofs.bounds.bounded_row.Statement.{statement}

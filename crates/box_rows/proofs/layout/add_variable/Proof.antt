@@ -1,9 +1,7 @@
 -- The loop: the cells below exponent e have their masks (`Adding`), and `next_cells` puts the cells of e behind them.
 use borrow.Author.Needs.{needs}
-use mathlib.Core.Path.{_≡_, refl, sym, _∙_, ap}
 use Prim.Native.Nat.{suc, _+_, _*_, _-_, _≤_}
 use native.Mathlib.Omega.{arith}
-use lib.ListN.{length}
 use Rattle.box_rows.specs.Layouts.{Adding, adding-start, adding-behind, adding-fits, adding-count}
 use Rattle.box_rows.proofs.MaskLayouts.{mask, mask-zeroth, masks-step}
 use Rattle.box_rows.proofs.layout.add_variable.Statement.{statement}

@@ -4,7 +4,7 @@ use borrow.Author.Tests.{le-leb, lt-leb}
 use mathlib.Core.Path.{_≡_, refl, sym, _∙_, ap}
 use mathlib.Core.Bool.{Bool, cond}
 use mathlib.Core.List.{List}
-use Prim.Native.Nat.{ℕ, _+_, _*_, _-_, _≤_}
+use Prim.Native.Nat.{ℕ, _-_, _≤_}
 use native.Mathlib.Nat.{le-trans, le-of-eq}
 use native.Mathlib.Numerals.{add-one}
 use native.Mathlib.Omega.{arith}

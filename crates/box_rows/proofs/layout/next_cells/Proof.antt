@@ -1,11 +1,8 @@
 -- The loop: the table is filled up to `from` + r, and each number is that of the exponent before, which stands below, without t bits.
 use borrow.Author.Needs.{needs}
-use mathlib.Core.List.{List}
-use mathlib.Core.Path.{_≡_, sym, _∙_, ap}
-use Prim.Native.Nat.{ℕ, _+_, _-_, _/_, _^_, _≤_, _<_}
+use mathlib.Core.Path.{_≡_}
+use Prim.Native.Nat.{_+_, _-_}
 use native.Mathlib.Omega.{arith}
-use lib.ListN.{length, length-set}
-use Rattle.theory.specs.Tables.{Filled}
 use Rattle.box_rows.proofs.MaskLayouts.{Behind, behind-start, behind-step}
 use Rattle.box_rows.proofs.layout.next_cells.Statement.{statement}
 use Rattle.box_rows.proofs.layout.next_cells.Tie as tie

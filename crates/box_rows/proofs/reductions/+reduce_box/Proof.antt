@@ -1,7 +1,7 @@
 -- The measure is the number of degrees. Lines and rows are those of `reduce_line` and `reduce_row`. Else the loop: the sub-boxes below the last exponent e are
 -- done (`Boxes`), and `left` are the bits that e leaves.
 use borrow.Author.Needs.{needs}
-use mathlib.Core.Path.{_≡_, refl, sym, _∙_, ap}
+use mathlib.Core.Path.{sym, _∙_}
 use Prim.Native.Nat.{ℕ, _+_, _-_, _/_, _≤_, _<_}
 use native.Mathlib.Omega.{arith}
 use lib.ListN.{length}

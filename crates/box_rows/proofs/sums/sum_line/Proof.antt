@@ -1,9 +1,7 @@
 -- The loop: the first i sums are kept to their bits, and the mask is that of entry i.
 use borrow.Author.Needs.{needs}
-use mathlib.Core.Path.{_≡_, refl, sym, _∙_, ap}
-use Prim.Native.Nat.{ℕ, _+_, _-_, _/_, _%_, _^_}
+use Prim.Native.Nat.{_+_, _-_, _%_, _^_}
 use native.Mathlib.Omega.{arith}
-use lib.Bits.{bitAnd}
 use lib.ListN.{length, length-set}
 use Rattle.meaning.specs.Tables.{at}
 use Rattle.meaning.specs.Factorials.{factorial, twos}

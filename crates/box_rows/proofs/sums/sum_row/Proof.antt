@@ -1,12 +1,11 @@
 -- The loop: the first i sums are kept to the bits of the masks; with the masks of a box these are the bits of its bounds.
 use borrow.Author.Needs.{needs}
-use mathlib.Core.Path.{_≡_, refl, sym, _∙_, ap}
+use mathlib.Core.Path.{_∙_, ap}
 use Prim.Native.Nat.{ℕ, _+_, _-_, _/_, _%_, _^_}
 use native.Mathlib.Omega.{arith}
 use lib.Bits.{bitAnd}
 use lib.ListN.{length, length-set}
 use Rattle.meaning.specs.Tables.{at}
-use Rattle.meaning.specs.Factorials.{factorial, twos}
 use Rattle.theory.specs.Words.{low-bits}
 use Rattle.theory.specs.Tables.{Filled, filled-start, filled-step, filled-done}
 use Rattle.box_rows.proofs.Kept.{kept-row, total-kept}

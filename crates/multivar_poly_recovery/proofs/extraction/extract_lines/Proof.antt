@@ -1,12 +1,11 @@
 -- No variable is behind the whole box, so that all bits are left and the inverse is 1 (`promise-whole`); one variable is a line.
 use borrow.Author.Needs.{needs}
-use mathlib.Core.Path.{_≡_, refl, sym, _∙_, ap}
-use mathlib.Core.List.{List}
-use Prim.Native.Nat.{ℕ, _-_, _<_}
+use mathlib.Core.Path.{_≡_, _∙_, ap}
+use Prim.Native.Nat.{_-_}
 use native.Mathlib.Nat.{le-refl}
 use native.Mathlib.Omega.{arith}
 use lib.ListN.{length}
-use Rattle.theory.specs.Tables.{at-tabulate, length-tabulate}
+use Rattle.theory.specs.Tables.{length-tabulate}
 use Rattle.multivar_poly_recovery.specs.Extracted.{Inverses}
 use Rattle.multivar_poly_recovery.proofs.Servings.{single, single-cells, serving-alone, inverses-of}
 use Rattle.multivar_poly_recovery.proofs.SubBoxes.{promise-split}

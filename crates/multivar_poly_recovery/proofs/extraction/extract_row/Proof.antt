@@ -1,8 +1,7 @@
 -- The loop: the first i differences pass and are now coefficients. `row-fails` closes the return at one that does not pass, `row-done` the end.
 use borrow.Author.Needs.{needs}
-use mathlib.Core.Path.{_≡_, sym, _∙_, ap}
 use mathlib.Core.List.{List}
-use Prim.Native.Nat.{ℕ, _-_, _/_, _^_, _≤_, _<_}
+use Prim.Native.Nat.{ℕ, _-_, _<_}
 use native.Mathlib.Omega.{arith}
 use lib.ListN.{length}
 use Rattle.multivar_poly_recovery.proofs.Rows.{InRow, OfRow, Right, right-row, row-start, row-step, row-fails, row-done}

@@ -1,12 +1,11 @@
 -- The masks and the inverses that are laid out are those of the box's rows; no variable is behind the whole box (`promise-whole`).
 use borrow.Author.Needs.{needs}
 use mathlib.Core.Path.{_≡_, refl, sym, _∙_, ap}
-use mathlib.Core.List.{List}
-use Prim.Native.Nat.{ℕ, _≤_, _<_}
+use Prim.Native.Nat.{_≤_}
 use native.Mathlib.Nat.{le-refl}
 use native.Mathlib.Omega.{arith}
 use lib.ListN.{length, take, replicate}
-use lib.Seq.{length-take-le, getD-take}
+use lib.Seq.{length-take-le}
 use Rattle.meaning.specs.Boxes.{cells}
 use Rattle.theory.specs.Tables.{length-tabulate}
 use Rattle.box_rows.specs.Rows.{Rowed, rowed-of}

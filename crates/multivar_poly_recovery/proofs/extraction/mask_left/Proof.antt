@@ -1,6 +1,6 @@
 -- Where no bits are left the shift would be by 64, and a number below 2^64 gives 0.
 use borrow.Author.Needs.{needs}
-use mathlib.Core.Path.{_≡_, sym, _∙_, ap}
+use mathlib.Core.Path.{sym, _∙_, ap}
 use Prim.Native.Nat.{ℕ, _-_, _/_, _^_}
 use native.Mathlib.Nat.{div-eq-of-lt}
 use Rattle.multivar_poly_recovery.proofs.extraction.mask_left.Statement.{statement}

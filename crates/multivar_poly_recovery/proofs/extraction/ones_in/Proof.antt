@@ -1,6 +1,6 @@
 -- A mask and 1 is a power of two, or 0 where all 64 bits are ones (`trailing-mask`).
 use borrow.Author.Needs.{needs}
-use mathlib.Core.Path.{_≡_, _∙_, ap}
+use mathlib.Core.Path.{_∙_, ap}
 use Prim.Native.Nat.{ℕ, _+_, _%_, _^_}
 use lib.Count.{trailingZeros}
 use Rattle.multivar_poly_recovery.proofs.Cells.{trailing-mask}
