@@ -219,6 +219,20 @@ uint32_t cobra_box_sum(const uint64_t *a, size_t a_len,
                        uint64_t *out, size_t out_len);
 
 /*
+ * The normal form of a polynomial in falling factorials, in place.
+ *
+ * coeffs   a coefficient for each cell: cells entries
+ *
+ * Numbers: 1, 2, 3, 5, 7, 8, 9.
+ * COBRA_OK: each coefficient is what it was modulo 2^(width - q), and 0 where q is the width or
+ * more; the polynomial has the same value modulo 2^width at every whole-number point.
+ * Any other number: coeffs is as it was.
+ */
+uint32_t cobra_reduce(uint64_t *coeffs, size_t coeffs_len,
+                      const uint64_t *support, size_t support_len,
+                      uint32_t total, uint32_t width, uint8_t degree);
+
+/*
  * Whether two boxes with their settings are the same.
  *
  * a, b     the coefficients of the first and the second: as many as its box has cells

@@ -1,4 +1,4 @@
-//! is_valid, sameness, value and sum. The Rust has is_valid, and an equality of forms that knows neither
+//! is_valid, sameness, value, sum and reduction. The Rust has is_valid, and an equality of forms that knows neither
 //! support nor degree; the others are document 01's definitions, computed here cell by cell.
 
 use crate::boxes::{
@@ -14,11 +14,12 @@ use crate::reference as rust;
 use crate::settings::Settings;
 
 /// Each group with whether the library has its call.
-pub const GROUPS: [(&Group, bool); 4] = [
+pub const GROUPS: [(&Group, bool); 5] = [
     (&IS_VALID, cfg!(cobra_box_is_valid)),
     (&SAME, cfg!(cobra_box_same)),
     (&VALUE, cfg!(all(cobra_box_value, cobra_value))),
     (&SUM, cfg!(cobra_box_sum)),
+    (&REDUCE, cfg!(cobra_reduce)),
 ];
 
 /// Without degree 0, which recovery alone refuses.
@@ -291,6 +292,58 @@ fn sum_tables(c: &Case) -> [Vec<u64>; 3] {
 
 fn sum_number(c: &Case) -> u32 {
     settings(c).refusal(false, &lengths::<3>(c)).unwrap_or(0)
+}
+
+const REDUCE: Group = Group {
+    name: "box_reduce",
+    names: &[NUMBERS[0], NUMBERS[1], NUMBERS[2], NUMBERS[3], NUMBERS[4], "support", "coefficients"],
+    small: |give| {
+        every_set_of_causes(&accepted(8, 1), &PLAIN, form_number, give);
+        above_the_limit(1, give);
+        // all bits of each cell, and one above its bound
+        for width in 2..=64 {
+            for (k, degree) in [(1u64, 66), (2, 4), (4, 1), (2, 15), (3, 9)] {
+                let base = Case::of([20, width, degree, 0, 7]).with((0..k).rev().collect());
+                let twos = twos_of_cells(degree as u8, k as usize);
+                let bound = |&q: &u32| low_bits(width.saturating_sub(u64::from(q))).wrapping_add(1);
+                give(base.clone().with(vec![u64::MAX; twos.len()]));
+                give(base.with(twos.iter().map(bound).collect()));
+            }
+        }
+    },
+    random: Some(|r| {
+        let mut c = any_box(r);
+        c.tables.push(coefficients(&c, r));
+        if r.one_in(8) {
+            spoil(&mut c, &PLAIN, r);
+        }
+        c
+    }),
+    cost: 1,
+    judged: |c| {
+        let (s, coeffs) = (settings(c), reduce_table(c));
+        let (mut coeffs, mut support) = (Lent::new(&coeffs), Lent::new(s.support));
+        let (n, k, from, at) = (coeffs.len(), support.len(), coeffs.at(), support.at());
+        let answer = unsafe { ours::cobra_reduce(from, n, at, k, s.total, s.width, s.degree) };
+        let outside = coeffs.outside() + support.outside();
+        let said = Answer::number(answer).words("coefficients", coeffs.content());
+        said.words("support", support.content()).outside(outside)
+    },
+    expected: |c| {
+        let (s, mut coeffs, number) = (settings(c), reduce_table(c), form_number(c));
+        if number == 0 {
+            let twos = twos_of_cells(s.degree, s.support.len());
+            let kept = |q: u32| low_bits(u64::from(s.width.saturating_sub(q)));
+            coeffs.iter_mut().zip(&twos).for_each(|(x, &q)| *x &= kept(q));
+        }
+        let said = Answer::number(number).words("coefficients", coeffs);
+        (Source::Document, said.words("support", s.support.to_vec()).outside(0))
+    },
+};
+
+fn reduce_table(c: &Case) -> Vec<u64> {
+    let [n] = lengths(c);
+    lent(&c.tables[1], n)
 }
 
 const SAME: Group = Group {

@@ -48,6 +48,10 @@ pub mod poly {
             support: *const u64, support_len: usize, total: u32, width: u32, max_degree: u8,
             out: *mut u64, out_len: usize,
         );
+        cobra_reduce(
+            coeffs: *mut u64, coeffs_len: usize, support: *const u64, support_len: usize,
+            total: u32, width: u32, max_degree: u8,
+        );
     }
 }
 

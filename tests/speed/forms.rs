@@ -1,4 +1,4 @@
-//! Value, sum, validity and sameness of boxes. The Rust has no value and no sum; its validity and its
+//! Value, sum, reduction, validity and sameness of boxes. The Rust has no value, no sum and no reduction; its validity and its
 //! equality go over the maps of the coefficients that are not zero.
 
 use crate::boxes::{low_bits, twos_of_cells};
@@ -15,14 +15,20 @@ use std::hint::black_box;
 extern "C" {
     fn limit_value(coeffs: *const u64, cells: usize, width: u32, degree: u8, point: *const u64, variables: usize) -> u64;
     fn limit_sum(a: *const u64, b: *const u64, cells: usize, width: u32, degree: u8, out: *mut u64);
+    fn limit_reduce(coeffs: *mut u64, cells: usize, width: u32, degree: u8);
     fn limit_is_valid(coeffs: *const u64, cells: usize, width: u32, degree: u8) -> u32;
     fn limit_same(a: *const u64, b: *const u64, cells: usize, a_support: *const u64, b_support: *const u64, variables: usize) -> u32;
 }
 
 pub fn time(session: &mut Session) {
     let boxes = [&SMALL[..], &CELLS_4096, &CELLS_65536].concat();
-    let calls: [(&str, fn(&mut Session, &Form)); 4] =
-        [("box_value", |s, form| value(s, form, false)), ("box_sum", sum), ("box_is_valid", is_valid), ("box_same", same)];
+    let calls: [(&str, fn(&mut Session, &Form)); 5] = [
+        ("box_value", |s, form| value(s, form, false)),
+        ("box_sum", sum),
+        ("box_reduce", reduce),
+        ("box_is_valid", is_valid),
+        ("box_same", same),
+    ];
     for (call, timed) in calls {
         for (shape, listed) in shapes::all(&boxes, 2) {
             Form::with(shape, WIDE, listed, |form| timed(session, form));
@@ -121,6 +127,27 @@ fn sum(session: &mut Session, form: &Form) {
             beside: None,
             c: &mut run(|| by_limit(black_box(&mut limit_out))),
             ours: &mut run(|| by_library(black_box(&mut our_out))),
+        },
+    );
+}
+
+fn reduce(session: &mut Session, form: &Form) {
+    let (s, cells, given) = (&form.s, form.cells, &form.any[0]);
+    let by_library = |coeffs: &mut [u64]| unsafe {
+        let (vars, k) = (s.support.as_ptr(), s.support.len());
+        poly::cobra_reduce(coeffs.as_mut_ptr(), cells, vars, k, s.total, s.width, s.degree)
+    };
+    let by_limit = |coeffs: &mut [u64]| unsafe { limit_reduce(coeffs.as_mut_ptr(), cells, s.width, s.degree) };
+    let (mut ours, mut limit) = (given.clone(), given.clone());
+    by_limit(&mut limit);
+    check(by_library(&mut ours) == 0 && ours == limit, "the library's reduction is not the C's");
+    session.time(
+        form.input("box_reduce"),
+        Programs {
+            rust: None,
+            beside: None,
+            c: &mut run(|| by_limit(black_box(&mut limit))),
+            ours: &mut run(|| by_library(black_box(&mut ours))),
         },
     );
 }

@@ -1,4 +1,4 @@
-/* Value, sum, validity and sameness of boxes in plain C. The first three are recursions over the last variable. */
+/* Value, sum, reduction, validity and sameness of boxes in plain C. The first four are recursions over the last variable. */
 
 #include "limit.h"
 
@@ -46,6 +46,23 @@ static void sum(const uint64_t *a, const uint64_t *b, size_t cells, size_t base,
 void limit_sum(const uint64_t *a, const uint64_t *b, size_t cells, uint32_t width, uint8_t degree, uint64_t *out)
 {
     sum(a, b, cells, (size_t)degree + 1, width, out);
+}
+
+static void reduce(uint64_t *part, size_t cells, size_t base, uint32_t bits)
+{
+    if (cells > base) {
+        size_t sub = cells / base;
+        for (size_t e = 0; e < base; e++)
+            reduce(part + e * sub, sub, base, bits_left(bits, e));
+        return;
+    }
+    for (size_t e = 0; e < base; e++)
+        part[e] &= low_bits(bits_left(bits, e));
+}
+
+void limit_reduce(uint64_t *coeffs, size_t cells, uint32_t width, uint8_t degree)
+{
+    reduce(coeffs, cells, (size_t)degree + 1, width);
 }
 
 static int valid(const uint64_t *part, size_t cells, size_t base, uint32_t bits)

@@ -87,11 +87,29 @@ pub record Boxes (w : ℕ) (ds : List ℕ) (x : ℕ → ℕ) (t₀ t : List ℕ)
   pub bits : left ≡ w - twos (factorial e)
   pub filled : Filled (λ i. x i % bound w (digits ds i)) t₀ t from
 
+-- of two variables the others are one
+line-others : (ds : List ℕ) → length ds ≡ 2 → at ds 0 + 1 ≡ cells (others ds)
+unfolding cells
+line-others [] h = absurd (suc-ne-zero 1 (sym h))
+line-others (d ∷ []) h = absurd (suc-ne-zero 0 (suc-inj (sym h)))
+line-others (d ∷ (y ∷ [])) h = omega arith
+line-others (d ∷ (y ∷ (z ∷ zs))) h = absurd (suc-ne-zero (length zs) (suc-inj (suc-inj h)))
+
 -- one exponent more
 pub left-next : (w left e more : ℕ) → left ≡ w - twos (factorial e) → more ≡ left - twos (e + 1) → more ≡ w - twos (factorial (e + 1))
 left-next w left e more h m = omega (arith, h, m, twos-factorial e)
 
 module _ (w : ℕ) (ds : List ℕ) (x : ℕ → ℕ) (t₀ : List ℕ) where
+  -- two variables, whose sub-boxes are lines
+  pub boxes-lines : length ds ≡ 2 → length t₀ ≡ cells ds → (size : ℕ) → size ≡ at ds 0 + 1 → Boxes w ds x t₀ t₀ size w 0 0
+  unfolding factorial twos twosIn
+  boxes-lines h e size s =
+      record {
+        walk = record { filled = omega arith; whole = e; sized = s ∙ line-others ds h; place = omega arith; within = omega arith };
+        bits = omega arith;
+        filled = filled-start _ t₀;
+      }
+
   pub boxes-start : 0 < length ds → length t₀ ≡ cells ds → Boxes w ds x t₀ t₀ (length t₀ / (final ds + 1)) w 0 0
   unfolding factorial twos twosIn
   boxes-start h e = record { walk = walk-start ds (length t₀) h e; bits = omega arith; filled = filled-start _ t₀ }

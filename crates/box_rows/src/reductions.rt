@@ -38,8 +38,26 @@ fn reduce_row(table: &mut [u64], masks: &[u64], bits: u32)
     }
 }
 
-// The box of `degrees`, of which the first ones make rows: each sub-box of the last variable in turn. Where no variable makes rows the walk ends at a line,
-// and where no bits are left at once, since any line then serves.
+// Two variables, line by line.
+fn reduce_plane(table: &mut [u64], degrees: &[u8], bits: u32)
+    requires { ⌜ (length (now table) ≡ cells (now degrees)) × (bits ≤ 64) × (length (now degrees) ≡ 2) ⌝ }
+    ensures { λ r. ⌜ now (table .exit) ≡ boxReduced (bound bits) (now (degrees .entry)) (now (table .entry)) ⌝ }
+{
+    let size = degrees[0] as usize + 1;
+    let mut left = bits;
+    let mut e: usize = 0;
+    let mut from = 0;
+    while from < table.len() {
+        let end = from + size;
+        reduce_line(&mut table[from..end], left);
+        from = end;
+        e += 1;
+        left = layout::bits_left(left, e);
+    }
+}
+
+// The box of `degrees`, of which the first ones make rows: each sub-box of the last variable in turn. Where no variable makes rows the walk ends at two
+// variables, and where no bits are left at once, since any line then serves.
 fn reduce_box(table: &mut [u64], degrees: &[u8], first: usize, masks: &[u64], bits: u32)
     requires { ⌜ (length (now table) ≡ cells (now degrees)) × (bits ≤ 64) ⌝ }
     requires { ⌜ Rowed first (now degrees) (now masks) ⌝ }
@@ -53,8 +71,8 @@ fn reduce_box(table: &mut [u64], degrees: &[u8], first: usize, masks: &[u64], bi
         reduce_row(table, masks, bits);
         return;
     }
-    if degrees.len() == 1 {
-        reduce_line(table, bits);
+    if degrees.len() + first == 2 {
+        reduce_plane(table, degrees, bits);
         return;
     }
     let last = degrees.len() - 1;

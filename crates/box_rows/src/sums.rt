@@ -40,8 +40,27 @@ fn sum_row(a: &[u64], b: &[u64], out: &mut [u64], masks: &[u64], bits: u32)
     }
 }
 
-// The box of `degrees`, of which the first ones make rows: each sub-box of the last variable in turn. Where no variable makes rows the walk ends at a line,
-// and where no bits are left at once, since any line then serves.
+// Two variables, line by line.
+fn sum_plane(a: &[u64], b: &[u64], out: &mut [u64], degrees: &[u8], bits: u32)
+    requires { ⌜ (length (now a) ≡ cells (now degrees)) × (length (now b) ≡ cells (now degrees)) × (length (now out) ≡ cells (now degrees)) × (bits ≤ 64) ⌝ }
+    requires { ⌜ length (now degrees) ≡ 2 ⌝ }
+    ensures { λ r. ⌜ now (out .exit) ≡ boxTotal (bound bits) (now (degrees .entry)) (now (a .entry)) (now (b .entry)) ⌝ }
+{
+    let size = degrees[0] as usize + 1;
+    let mut left = bits;
+    let mut e: usize = 0;
+    let mut from = 0;
+    while from < out.len() {
+        let end = from + size;
+        sum_line(&a[from..end], &b[from..end], &mut out[from..end], left);
+        from = end;
+        e += 1;
+        left = layout::bits_left(left, e);
+    }
+}
+
+// The box of `degrees`, of which the first ones make rows: each sub-box of the last variable in turn. Where no variable makes rows the walk ends at two
+// variables, and where no bits are left at once, since any line then serves.
 fn sum_box(
     a: &[u64],
     b: &[u64],
@@ -63,8 +82,8 @@ fn sum_box(
         sum_row(a, b, out, masks, bits);
         return;
     }
-    if degrees.len() == 1 {
-        sum_line(a, b, out, bits);
+    if degrees.len() + first == 2 {
+        sum_plane(a, b, out, degrees, bits);
         return;
     }
     let last = degrees.len() - 1;

@@ -5,11 +5,11 @@ ghost use mathlib.Core.Bool.{false};
 ghost use Prim.Native.Nat.{_^_};
 ghost use Rattle.meaning.specs.Settings.{cube};
 ghost use Rattle.meaning.specs.Conversions.{fallingBox, powerBox, normalBox};
-ghost use Rattle.meaning.specs.Calls.{validReply, sameReply, valueReply, sumNumber, sumLeft, inOutNumber, convertLeft, recoveryNumber, recoveryLeft};
+ghost use Rattle.meaning.specs.Calls.{validReply, sameReply, valueReply, sumNumber, sumLeft, reduceNumber, reduceLeft, inOutNumber, convertLeft, recoveryNumber, recoveryLeft};
 ghost use Rattle.meaning.specs.Replies.{told};
 ghost use Rattle.meaning.specs.Singletons.{singletonNumber, singletonLeft};
-ghost use Rattle.demand3.specs.Settings.{ValidPasses, ValuePasses, SumPasses, ConvertPasses, Passing};
-ghost use Rattle.demand3.specs.Promises.{Judged, Valued, Summed, ToFalling, ToPowers, Normalised, Decides};
+ghost use Rattle.demand3.specs.Settings.{ValidPasses, ValuePasses, SumPasses, ReducePasses, ConvertPasses, Passing};
+ghost use Rattle.demand3.specs.Promises.{Judged, Valued, Summed, Reduced, ToFalling, ToPowers, Normalised, Decides};
 ghost use Rattle.settings.specs.Forms.{cubeForm};
 
 // 1 at `value` where the box is a normal form, else 0.
@@ -108,6 +108,23 @@ pub extern "C" fn cobra_box_sum(
         width (cube (now (support .entry)) degree) (now (a .entry)) (now (b .entry)) r (now (out .exit)) ⌝ }
 {
     answers::outcome_code(poly::sum(a, b, support, total, width, degree, out))
+}
+
+// Each coefficient of a box modulo its bound, in place.
+#[no_mangle]
+pub extern "C" fn cobra_reduce(
+    coeffs: &mut [u64],
+    support: &[u64],
+    total: u32,
+    width: u32,
+    degree: u8,
+) -> u32
+    ensures says { λ r. ⌜ r ≡ reduceNumber total width (now (support .entry)) (cube (now (support .entry)) degree) (now (coeffs .entry)) ⌝ }
+    ensures leaves { λ r. ⌜ now (coeffs .exit) ≡ reduceLeft total width (now (support .entry)) (cube (now (support .entry)) degree) (now (coeffs .entry)) ⌝ }
+    ensures reduces { λ r. ⌜ Reduced (ReducePasses total width (now (support .entry)) (cube (now (support .entry)) degree) (now (coeffs .entry)))
+        width (cube (now (support .entry)) degree) (now (coeffs .entry)) r (now (coeffs .exit)) ⌝ }
+{
+    answers::outcome_code(poly::reduce(coeffs, support, total, width, degree))
 }
 
 // From powers to falling factorials.

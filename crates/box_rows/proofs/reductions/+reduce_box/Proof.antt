@@ -1,14 +1,14 @@
--- The measure is the number of degrees. Lines and rows are those of `reduce_line` and `reduce_row`. Else the loop: the sub-boxes below the last exponent e are
+-- The measure is the number of degrees. Lines, rows and planes are those of `reduce_line`, `reduce_row` and `reduce_plane`. Else the loop: the sub-boxes below the last exponent e are
 -- done (`Boxes`), and `left` are the bits that e leaves.
 use borrow.Author.Needs.{needs}
-use mathlib.Core.Path.{sym, _∙_}
+use mathlib.Core.Path.{_≡_, sym, _∙_}
 use Prim.Native.Nat.{ℕ, _+_, _-_, _/_, _≤_, _<_}
 use native.Mathlib.Omega.{arith}
 use lib.ListN.{length}
 use Rattle.meaning.specs.Tables.{at}
 use Rattle.theory.specs.LastVariable.{final, length-others}
 use Rattle.box_rows.specs.Rows.{rowed-whole, rowed-others}
-use Rattle.box_rows.proofs.Kept.{reduced-kept, kept-none, kept-line, Boxes, boxes-start, boxes-exponent, boxes-fit, boxes-part, boxes-few, boxes-next, boxes-read, boxes-less, boxes-done}
+use Rattle.box_rows.proofs.Kept.{reduced-kept, kept-none, Boxes, boxes-start, boxes-exponent, boxes-fit, boxes-part, boxes-few, boxes-next, boxes-read, boxes-less, boxes-done}
 use borrow.Fn.Kinds.{In}
 use borrow.Fn.PlainCycle.{Measures, is, falls, and}
 use Rattle.box_rows.proofs.reductions.reduce_box.Reads as reads
@@ -17,6 +17,7 @@ use Rattle.box_rows.proofs.reductions.+reduce_box.Lts-reduce_box as lts
 use Rattle.box_rows.proofs.layout.bits_left.Reads as bits-left-reads
 use Rattle.box_rows.proofs.reductions.reduce_line.Reads as reduce-line-reads
 use Rattle.box_rows.proofs.reductions.reduce_row.Reads as reduce-row-reads
+use Rattle.box_rows.proofs.reductions.reduce_plane.Reads as reduce-plane-reads
 use Rattle.box_rows.proofs.reductions.+reduce_box.{statement}
 use Rattle.box_rows.proofs.reductions.+reduce_box.Tie.{close}
 
@@ -36,6 +37,8 @@ calls t = (
   reduce-line-reads.Learnt,
   reduce-row-reads.Asked,
   reduce-row-reads.Learnt,
+  reduce-plane-reads.Asked,
+  reduce-plane-reads.Learnt,
   below t,
   reads.Post,
   bits-left-reads.Asked,
@@ -58,8 +61,15 @@ none-left t c = c .before .before .before .before
 abbrev one-row : (t : ℕ) → lts.Then2 (calls t) (here t) reads.Post Inv-loop μ-loop → Lent t
 one-row t c = c .before .before .before .before .before
 
-abbrev one-line : (t : ℕ) → lts.Then3 (calls t) (here t) reads.Post Inv-loop μ-loop → Lent t
-one-line t c = c .before .before .before .before .before .before
+abbrev more : (t : ℕ) → lts.Else2 (calls t) (here t) reads.Post Inv-loop μ-loop → Lent t
+more t c = c .before .before .before .before .before
+
+abbrev plane : (t : ℕ) → lts.Then3 (calls t) (here t) reads.Post Inv-loop μ-loop → Lent t
+plane t c = more t (c .before)
+
+-- with a variable that makes no rows, two variables together are two without rows
+two : (t : ℕ) (c : lts.Then3 (calls t) (here t) reads.Post Inv-loop μ-loop) → length (plane t c .args .degrees .now) ≡ 2
+two t c = omega (arith, plane t c .pre .1 .1 .within, c .before .if2 .left, c .if3 .taken)
 
 -- a variable is left that makes no rows
 abbrev Larger : ℕ → Type 0
@@ -128,13 +138,10 @@ pub +reduce-box-spec : {M : Type 1} → statement M
     let h = k .before .before in
     let s = one-row t h in
     k .reduce-row .ensures _ (rowed-whole _ _ _ (s .pre .1 .1) (h .if2 .taken) .0) (s .pre .1 .0 .0))
-    (λ c κs. search needs)
+    (λ c. omega (arith, more t c .pre .1 .1 .within))
+    (λ c κs. let s = plane t (c .before) in (s .pre .1 .0 .0, s .pre .1 .0 .1, two t (c .before)))
     (λ c. search needs)
-    (λ c.
-    let k = c .before .before in
-    let h = k .before .before in
-    let s = one-line t h in
-    k .reduce-line2 .ensures ∙ kept-line (s .args .bits) _ _ _ (s .pre .1 .0 .0) (h .if3 .taken) ∙ reduced-kept _ _ _)
+    (λ c. search needs)
     (λ c. omega (arith, some t c))
     (λ c. omega (arith, some t (c .before)))
     (λ c. let n = length (lent t (c .before) .args .degrees .now) - 1 in omega (arith, c .shared-slice-known3 .given n))

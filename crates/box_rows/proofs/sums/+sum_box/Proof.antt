@@ -1,4 +1,4 @@
--- The measure is the number of degrees. Lines and rows are those of `sum_line` and `sum_row`. Else the loop: the sub-boxes below the last exponent e are
+-- The measure is the number of degrees. Lines, rows and planes are those of `sum_line`, `sum_row` and `sum_plane`. Else the loop: the sub-boxes below the last exponent e are
 -- done (`Boxes`), and `left` are the bits that e leaves.
 use borrow.Author.Needs.{needs}
 use mathlib.Core.Path.{_≡_, sym, _∙_, ap₂}
@@ -11,7 +11,7 @@ use Rattle.meaning.specs.Boxes.{cells}
 use Rattle.theory.specs.Parts.{part}
 use Rattle.theory.specs.LastVariable.{others, final, length-others}
 use Rattle.box_rows.specs.Rows.{rowed-whole, rowed-others}
-use Rattle.box_rows.proofs.Kept.{total-kept, kept-none, kept-line, Boxes, boxes-start, boxes-exponent, boxes-fit, boxes-part, boxes-few, boxes-next, boxes-entry, boxes-less, boxes-done}
+use Rattle.box_rows.proofs.Kept.{total-kept, kept-none, Boxes, boxes-start, boxes-exponent, boxes-fit, boxes-part, boxes-few, boxes-next, boxes-entry, boxes-less, boxes-done}
 use borrow.Fn.Kinds.{In}
 use borrow.Fn.PlainCycle.{Measures, is, falls, and}
 use Rattle.box_rows.proofs.sums.sum_box.Reads as reads
@@ -20,6 +20,7 @@ use Rattle.box_rows.proofs.sums.+sum_box.Lts-sum_box as lts
 use Rattle.box_rows.proofs.layout.bits_left.Reads as bits-left-reads
 use Rattle.box_rows.proofs.sums.sum_line.Reads as sum-line-reads
 use Rattle.box_rows.proofs.sums.sum_row.Reads as sum-row-reads
+use Rattle.box_rows.proofs.sums.sum_plane.Reads as sum-plane-reads
 use Rattle.box_rows.proofs.sums.+sum_box.{statement}
 use Rattle.box_rows.proofs.sums.+sum_box.Tie.{close}
 
@@ -39,6 +40,8 @@ calls t = (
   sum-line-reads.Learnt,
   sum-row-reads.Asked,
   sum-row-reads.Learnt,
+  sum-plane-reads.Asked,
+  sum-plane-reads.Learnt,
   below t,
   reads.Post,
   bits-left-reads.Asked,
@@ -61,8 +64,15 @@ none-left t c = c .before .before .before .before .before .before
 abbrev one-row : (t : ℕ) → lts.Then2 (calls t) (here t) reads.Post Inv-loop μ-loop → Lent t
 one-row t c = c .before .before .before .before .before .before .before
 
-abbrev one-line : (t : ℕ) → lts.Then3 (calls t) (here t) reads.Post Inv-loop μ-loop → Lent t
-one-line t c = c .before .before .before .before .before .before .before .before
+abbrev more : (t : ℕ) → lts.Else2 (calls t) (here t) reads.Post Inv-loop μ-loop → Lent t
+more t c = c .before .before .before .before .before .before .before
+
+abbrev plane : (t : ℕ) → lts.Then3 (calls t) (here t) reads.Post Inv-loop μ-loop → Lent t
+plane t c = more t (c .before)
+
+-- with a variable that makes no rows, two variables together are two without rows
+two : (t : ℕ) (c : lts.Then3 (calls t) (here t) reads.Post Inv-loop μ-loop) → length (plane t c .args .degrees .now) ≡ 2
+two t c = omega (arith, plane t c .pre .1 .1 .within, c .before .if2 .left, c .if3 .taken)
 
 -- a variable is left that makes no rows
 abbrev Larger : ℕ → Type 0
@@ -137,13 +147,10 @@ pub +sum-box-spec : {M : Type 1} → statement M
     let h = k .before .before in
     let s = one-row t h in
     k .sum-row .ensures _ (rowed-whole _ _ _ (s .pre .1 .1) (h .if2 .taken) .0) (s .pre .1 .0 .2))
-    (λ c κs. search needs)
+    (λ c. omega (arith, more t c .pre .1 .1 .within))
+    (λ c κs. let s = plane t (c .before) in (s .pre .1 .0, two t (c .before)))
     (λ c. search needs)
-    (λ c.
-    let k = c .before .before in
-    let h = k .before .before in
-    let s = one-line t h in
-    k .sum-line2 .ensures ∙ kept-line (s .args .bits) _ _ _ (s .pre .1 .0 .2) (h .if3 .taken) ∙ total-kept _ _ _ _)
+    (λ c. search needs)
     (λ c. omega (arith, some t c))
     (λ c. omega (arith, some t (c .before)))
     (λ c. let n = length (lent t (c .before) .args .degrees .now) - 1 in omega (arith, c .shared-slice-known5 .given n))
