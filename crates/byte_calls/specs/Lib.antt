@@ -1,11 +1,9 @@
--- Tables as bytes (Bytes, ByteLaws), what the calls answer and leave (Calls), the laws of their cases (checks, tables and fit),
--- and what holds of an accepted fit (FitDemands).
+-- Tables as bytes (Bytes, ByteLaws, NormalTables), what the calls answer and leave (Calls, TableLaws), and what that means: of an accepted fit (FitDemands),
+-- of recovery and value (Passing).
 pub mod Bytes
 pub mod ByteLaws
 pub mod NormalTables
 pub mod Calls
-pub mod CallLaws
 pub mod TableLaws
-pub mod ByteFits
 pub mod FitDemands
 pub mod Passing

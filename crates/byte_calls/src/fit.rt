@@ -15,13 +15,6 @@ use crate::rooms;
 use answers::Number;
 use answers::Refusal;
 
-// The smaller of two degrees.
-fn lesser_degree(a: u8, b: u8) -> u8
-    ensures { λ r. ⌜ r ≡ min a b ⌝ }
-{
-    if a < b { a } else { b }
-}
-
 // Whether the tables have an entry for each grid cell and for each cell of the answer's box.
 fn lengths_fit(weights: &[u8], targets: &[u8], out: &[u8], rows: u64, cells: u64) -> bool
     ensures { λ r. ⌜ r ≡ (holds (now (weights .entry)) rows && holds (now (targets .entry)) rows && holds (now (out .entry)) cells) ⌝ }
@@ -60,7 +53,7 @@ fn fit_sized(
     if (settings::BYTE_LIMIT as u64) < entries {
         return Number::Refused(Refusal::TooLarge);
     }
-    let degree = lesser_degree(max_degree, grid_degree);
+    let degree = weighted_poly_fit::fit::lesser_degree(max_degree, grid_degree);
     let degrees = [degree; 20];
     let known = count as usize;
     let cells = settings::count_cells(&degrees[..known], settings::BYTE_LIMIT);

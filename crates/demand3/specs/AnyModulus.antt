@@ -14,12 +14,12 @@ use Rattle.meaning.specs.Polynomials.{Term, termsAt, Polynomial, polynomialAt, 
 use Rattle.theory.specs.Every.{Failing}
 use Rattle.theory.specs.Integers.{residue-boxAt}
 use Rattle.theory.specs.CutPolynomials.{cutBox, cutBox-agrees}
-use Rattle.theory.specs.GridRecovery.{Cells, Passes, solutions, tableTotal, solutions-bounded, solutions-agree, passes-of-agrees, agrees-same, bounded-disagrees, passes-total, solutions-total}
+use Rattle.theory.specs.GridRecovery.{Cells, DifferencesPass, solutions, tableTotal, solutions-bounded, solutions-agree, passes-of-agrees, agrees-same, bounded-disagrees, passes-total, solutions-total}
 use Rattle.theory.specs.WholeNumbers.{polynomialBox, powerPolynomial, residue-polynomialAt, polynomial-agrees-iff, powerPolynomial-agrees-iff}
 
 module _ {m : ℕ} (positive : 0 < m) (o : Cells m) (ds v : List ℕ) where
   -- 1, 2: every difference passes exactly when some polynomial agrees with the grid modulo m
-  pub passes-iff : Passes o ds v ↔ ((p : Polynomial ds) × PolynomialAgrees m ds p v)
+  pub passes-iff : DifferencesPass o ds v ↔ ((p : Polynomial ds) × PolynomialAgrees m ds p v)
   passes-iff = (
     λ h.
         let p : Polynomial ds = powerPolynomial m ds (solutions o ds v) in
@@ -28,7 +28,7 @@ module _ {m : ℕ} (positive : 0 < m) (o : Cells m) (ds v : List ℕ) where
   )
 
   -- and so for polynomials of any exponents
-  pub passes-of-any : (p : List Term) → ((n : ℕ) → n < cells ds → residue m (termsAt (length ds) p (map pos (digits ds n))) ≡ at v n % m) → Passes o ds v
+  pub passes-of-any : (p : List Term) → ((n : ℕ) → n < cells ds → residue m (termsAt (length ds) p (map pos (digits ds n))) ≡ at v n % m) → DifferencesPass o ds v
   passes-of-any p a = passes-of-agrees positive o ds (cutBox m ds p) v (cutBox-agrees positive ds p v a)
 
   -- 3: the answer is bounded, and where every difference passes it has at every point the value of every polynomial that agrees
@@ -49,8 +49,8 @@ module _ {m : ℕ} (positive : 0 < m) (o : Cells m) (ds v : List ℕ) where
   others-disagree c b ne = bounded-disagrees positive o ds c v b ne
 
   -- 5: sums
-  module _ (u : List ℕ) (p : Passes o ds u) (q : Passes o ds v) where
-    pub total-passes : Passes o ds (tableTotal m ds u v)
+  module _ (u : List ℕ) (p : DifferencesPass o ds u) (q : DifferencesPass o ds v) where
+    pub total-passes : DifferencesPass o ds (tableTotal m ds u v)
     total-passes = passes-total positive o ds u v p q
 
     pub total-answer : solutions o ds (tableTotal m ds u v) ≡ boxTotal (λ es. o es .h) ds (solutions o ds u) (solutions o ds v)

@@ -1,5 +1,5 @@
 -- The conversions of a line in place, by repeated synthetic division. Pass k + 1 adds to the coefficient j, from the highest index down to k + 1,
--- k + 1 times the coefficient j + 1. After k passes index j holds the sum over n of S(k + n, k) times the coefficient j + n (`quotient`), with j for
+-- k + 1 times the coefficient j + 1. After k passes index j holds the sum over n of S(k + n, k) times the coefficient j + n (`quotientLine`), with j for
 -- k where j is below k, so that before, during and after is one expression: the step is the recurrence of the Stirling numbers S of the second
 -- kind, exactly. At the start the sum is the coefficient, at the end it is that of the falling factorials. The same passes in opposite order, with
 -- differences, lead from the end to the start, so that the conversion back needs no law of its own.
@@ -28,18 +28,18 @@ use Rattle.lines.specs.InPlace.{lined-at, index-le, index-lt}
 -- ---- one line
 
 -- the sum over the coefficients from j on, with the Stirling numbers of column k
-unfoldable pub quotient : ℕ → ℕ → (ℕ → ℕ) → ℕ → ℕ
-quotient k d c j = sum (suc d - j) (λ n. stirling2 (k + n) k * c (j + n))
+unfoldable pub quotientLine : ℕ → ℕ → (ℕ → ℕ) → ℕ → ℕ
+quotientLine k d c j = sum (suc d - j) (λ n. stirling2 (k + n) k * c (j + n))
 
 -- there is nothing beyond the degree
-quotient-zero : (k d : ℕ) (c : ℕ → ℕ) (j : ℕ) → d < j → quotient k d c j ≡ 0
-unfolding quotient sum
+quotient-zero : (k d : ℕ) (c : ℕ → ℕ) (j : ℕ) → d < j → quotientLine k d c j ≡ 0
+unfolding quotientLine sum
 quotient-zero k d c j h = rw (sub-eq-zero-of-le h)
 
 -- the first term first
 quotient-first : (k d : ℕ) (c : ℕ → ℕ) (j : ℕ) → j ≤ d →
-    quotient k d c j ≡ c j + sum (d - j) (λ n. stirling2 (suc (k + n)) k * c (suc (j + n)))
-unfolding quotient sum
+    quotientLine k d c j ≡ c j + sum (d - j) (λ n. stirling2 (suc (k + n)) k * c (suc (j + n)))
+unfolding quotientLine sum
 quotient-first k d c j h =
     ap (λ x. sum x (λ n. stirling2 (k + n) k * c (j + n))) range
     ∙ simp (add-zero, add-suc) (omega (arith, ap (_* c j) (stirling2-self k)))
@@ -48,19 +48,19 @@ quotient-first k d c j h =
     range = omega arith
 
 -- and all the others are those of the next index
-quotient-next : (k d : ℕ) (c : ℕ → ℕ) (j : ℕ) → quotient k d c (suc j) ≡ sum (d - j) (λ n. stirling2 (k + n) k * c (suc (j + n)))
-unfolding quotient
+quotient-next : (k d : ℕ) (c : ℕ → ℕ) (j : ℕ) → quotientLine k d c (suc j) ≡ sum (d - j) (λ n. stirling2 (k + n) k * c (suc (j + n)))
+unfolding quotientLine
 quotient-next k d c j = simp (suc-sub-suc, suc-add)
 
 -- column 0 has the coefficient alone
-quotient-start : (d : ℕ) (c : ℕ → ℕ) (j : ℕ) → j ≤ d → quotient 0 d c j ≡ c j
+quotient-start : (d : ℕ) (c : ℕ → ℕ) (j : ℕ) → j ≤ d → quotientLine 0 d c j ≡ c j
 unfolding stirling2
 quotient-start d c j h =
     quotient-first 0 d c j h
     ∙ omega (arith, sum-zero (d - j) {f = λ n. 0 * c (suc (j + n))} (λ n p. zero-mul (c (suc (j + n)))))
 
 -- from one column to the next
-quotient-step : (k d : ℕ) (c : ℕ → ℕ) (j : ℕ) → j ≤ d → quotient (suc k) d c j ≡ quotient k d c j + suc k * quotient (suc k) d c (suc j)
+quotient-step : (k d : ℕ) (c : ℕ → ℕ) (j : ℕ) → j ≤ d → quotientLine (suc k) d c j ≡ quotientLine k d c j + suc k * quotientLine (suc k) d c (suc j)
 unfolding stirling2
 quotient-step k d c j h =
     quotient-first (suc k) d c j h
@@ -77,8 +77,8 @@ quotient-step k d c j h =
     term n = omega (arith, ap (λ x. stirling2 x k * c (suc (j + n))) (suc-add k n))
 
 -- column j at j has the coefficient of the falling factorial
-quotient-done : (d : ℕ) (c : ℕ → ℕ) (j : ℕ) → j ≤ d → quotient j d c j ≡ sum (suc d) (λ e. stirling2 e j * c e)
-unfolding quotient
+quotient-done : (d : ℕ) (c : ℕ → ℕ) (j : ℕ) → j ≤ d → quotientLine j d c j ≡ sum (suc d) (λ e. stirling2 e j * c e)
+unfolding quotientLine
 quotient-done d c j h =
     sym
     (ap (λ x. sum x (λ e. stirling2 e j * c e)) range
@@ -91,7 +91,7 @@ quotient-done d c j h =
 
 -- a line after k passes
 unfoldable pub divided : ℕ → ℕ → Line
-divided m k d c j = quotient (min k j) d c j % m
+divided m k d c j = quotientLine (min k j) d c j % m
 
 module _ (m d : ℕ) (c : ℕ → ℕ) where
   -- nothing is done
@@ -109,7 +109,7 @@ module _ (m d : ℕ) (c : ℕ → ℕ) where
         min-eq-left {n = suc k} {m = suc j} (omega arith),
         quotient-step k d c j h,
       )
-      (cong-add (cong-sym (mod-cong m (quotient k d c j))) (cong-mul-left (suc k) (cong-sym (mod-cong m (quotient (suc k) d c (suc j))))) .same)
+      (cong-add (cong-sym (mod-cong m (quotientLine k d c j))) (cong-mul-left (suc k) (cong-sym (mod-cong m (quotientLine (suc k) d c (suc j))))) .same)
 
   -- below it nothing changes
   divided-keep : (k j : ℕ) → j ≤ k → divided m (suc k) d c j ≡ divided m k d c j

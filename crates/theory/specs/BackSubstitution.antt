@@ -71,24 +71,6 @@ module _ (w cols : ℕ) (s : State) where
   unfolding substituted
   substituted-unknown c h = backward-unknown cols (λ j. 0) c h
 
-  -- back-substitution depends on the given values only
-  pub backward-eq : (c : ℕ) (x y : ℕ → ℕ) → ((j : ℕ) → x j ≡ y j) → (j : ℕ) → backward w cols s c x j ≡ backward w cols s c y j
-  unfolding backward
-  backward-eq zero x y h j = h j
-  backward-eq (suc c) x y h j =
-      let v = unknown w cols s x c in
-      backward-eq c (put c v x) (put c (unknown w cols s y c) y)
-      (λ k. ap₂ (λ (a b : ℕ). cond (eqb k c) a b) (unknown-eq x y c (λ i l. h i)) (h k)) j
-
-  -- one column: its value is put in, and the columns before it follow
-  pub backward-step : (c : ℕ) (x : ℕ → ℕ) (j : ℕ) → backward w cols s (suc c) x j ≡ backward w cols s c (put c (unknown w cols s x c) x) j
-  unfolding backward
-  backward-step c x j = refl
-
-  -- whether a column divides is known when its turn comes
-  pub dividesRest-backward : (c : ℕ) (x : ℕ → ℕ) → dividesRest w cols s (backward w cols s (suc c) x) c ≡ dividesRest w cols s x c
-  dividesRest-backward c x = dividesRest-eq (backward w cols s (suc c) x) x c (λ j l. backward-keeps (suc c) x j l)
-
   -- a row that is 0 before column c is solved by values of which that of c follows from those after it
   pub pivot-row-solved : (x : ℕ → ℕ) (c : ℕ) → c < cols → ((k : ℕ) → k < c → s .entry (s .pivot c) k ≡ 0)
       → T (dividesRest w cols s x c) → x c ≡ unknown w cols s x c

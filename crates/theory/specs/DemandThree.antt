@@ -16,11 +16,11 @@ use Rattle.theory.specs.Tables.{tabulate-cong}
 use Rattle.theory.specs.Every.{every-iff}
 use Rattle.theory.specs.Widths.{widthCell, divides-iff, Divided, divides-cases, coefficient-eq}
 use Rattle.theory.specs.DifferenceBounds.{difference-lt}
-use Rattle.theory.specs.GridRecovery.{Passes, solutions, solutionAt, solutions-bounded, solutions-agree, passes-of-agrees}
+use Rattle.theory.specs.GridRecovery.{DifferencesPass, solutions, solutionAt, solutions-bounded, solutions-agree, passes-of-agrees}
 use Rattle.theory.specs.GridRecovery.{bounded-unique, agrees-same, bounded-eq-of-values, value-cong-bounds, value-boxTotal}
 
 -- accepted is that every difference passes
-pub accepts-iff : (w : ℕ) (ds v : List ℕ) → T (accepts w ds v) ↔ Passes (widthCell w) ds v
+pub accepts-iff : (w : ℕ) (ds v : List ℕ) → T (accepts w ds v) ↔ DifferencesPass (widthCell w) ds v
 unfolding accepts difference
 accepts-iff w ds v =
     let all = every-iff (cells ds) (λ n. divides w (digits ds n) (difference w ds v n)) in (

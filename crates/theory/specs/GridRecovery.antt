@@ -26,8 +26,8 @@ abbrev pub Cells : ℕ → Type 0
 Cells m = (es : List ℕ) → OneCell m (factorials es)
 
 -- every difference of the table v passes
-abbrev pub Passes : {m : ℕ} → Cells m → List ℕ → List ℕ → Type 0
-Passes {m} o ds v = (n : ℕ) → n < cells ds → differences m ds (grid m ds v) (digits ds n) % o (digits ds n) .g ≡ 0
+abbrev pub DifferencesPass : {m : ℕ} → Cells m → List ℕ → List ℕ → Type 0
+DifferencesPass {m} o ds v = (n : ℕ) → n < cells ds → differences m ds (grid m ds v) (digits ds n) % o (digits ds n) .g ≡ 0
 
 -- the answer for the table v, at cell n and whole
 abbrev pub solutionAt : {m : ℕ} → Cells m → List ℕ → List ℕ → ℕ → ℕ
@@ -55,7 +55,7 @@ module _ {m : ℕ} (pos : 0 < m) (o : Cells m) (ds : List ℕ) where
       }
 
   -- where every difference passes, the answer agrees
-  pub solutions-agree : (v : List ℕ) → Passes o ds v → Agrees m ds (solutions o ds v) v
+  pub solutions-agree : (v : List ℕ) → DifferencesPass o ds v → Agrees m ds (solutions o ds v) v
   solutions-agree v pass =
       agrees-iff m ds (solutions o ds v) v .1
       (record {
@@ -70,7 +70,7 @@ module _ {m : ℕ} (pos : 0 < m) (o : Cells m) (ds : List ℕ) where
 
   module _ (c v : List ℕ) (a : Agrees m ds c v) where
     -- whatever box agrees, every difference passes
-    pub passes-of-agrees : Passes o ds v
+    pub passes-of-agrees : DifferencesPass o ds v
     passes-of-agrees n p = fits-solved pos o ds (entry ds c) (grid m ds v) (digits ds n) (agrees-iff m ds c v .0 a) (digits-within ds n) .0
 
     -- and its coefficients are those of the answer, modulo what is left of m in each cell
@@ -162,11 +162,11 @@ module _ {m : ℕ} (pos : 0 < m) (o : Cells m) (ds : List ℕ) where
       ∙ sym (ap (_% m) (at-tabulate (cells ds) (λ n. (at u n + at v n) % m) n p) ∙ mod-mod (at u n + at v n) m)
 
   -- tables whose differences pass have a sum whose differences pass, and its answer is the sum of the answers
-  module _ (u v : List ℕ) (p : Passes o ds u) (q : Passes o ds v) where
+  module _ (u v : List ℕ) (p : DifferencesPass o ds u) (q : DifferencesPass o ds v) where
     total-agrees : Agrees m ds (boxTotal (λ es. o es .h) ds (solutions o ds u) (solutions o ds v)) (tableTotal m ds u v)
     total-agrees = boxTotal-agrees (solutions o ds u) (solutions o ds v) u v (solutions-agree u p) (solutions-agree v q)
 
-    pub passes-total : Passes o ds (tableTotal m ds u v)
+    pub passes-total : DifferencesPass o ds (tableTotal m ds u v)
     passes-total = passes-of-agrees (boxTotal (λ es. o es .h) ds (solutions o ds u) (solutions o ds v)) (tableTotal m ds u v) total-agrees
 
     pub solutions-total : solutions o ds (tableTotal m ds u v) ≡ boxTotal (λ es. o es .h) ds (solutions o ds u) (solutions o ds v)

@@ -10,7 +10,7 @@ use lib.Seq.{drop-length}
 use Rattle.meaning.specs.Elimination.{joined}
 use Rattle.meaning.specs.Fit.{columns}
 use Rattle.weighted_poly_fit.specs.ColumnListing.{exactly}
-use Rattle.weighted_poly_fit.specs.Listing.{pasted, listing, chosen, Listed}
+use Rattle.weighted_poly_fit.specs.Listing.{pasted, listing, exponentsBefore, Listed}
 use Rattle.weighted_poly_fit.proofs.Pasted.{pasted-none, pasted-more, length-pasted}
 use Rattle.weighted_poly_fit.proofs.Listed.{spread, spread-none, length-spread-le, spread-degree, spread-columns, length-columns-joined}
 
@@ -44,12 +44,12 @@ module _ {t₀ current₀ ds : List ℕ} {most : ℕ} where
     pub degrees-same : length t ≡ length t₀
     degrees-same = ap length (d .written) ∙ length-pasted t₀ 0 (spread [] r (exactly ds)) (omega (arith, enough r (d .few)))
 
-    nothing : chosen current ds ≡ []
+    nothing : exponentsBefore current ds ≡ []
     nothing =
         let e : length current - length ds ≡ 0 = omega (arith, d .wide, d .same) in
         ap (λ (n : ℕ). take n current) e
 
-    block : listing (chosen current ds) ds r ≡ listing [] ds r
+    block : listing (exponentsBefore current ds) ds r ≡ listing [] ds r
     block = ap (λ (p : List ℕ). listing p ds r) nothing
 
     one-more : spread [] (r + 1) (exactly ds) ≡ spread [] r (exactly ds) ++ listing [] ds r
@@ -59,7 +59,7 @@ module _ {t₀ current₀ ds : List ℕ} {most : ℕ} where
     pub degrees-fits : length ds ≤ length current
     degrees-fits = omega (arith, d .wide, d .same)
 
-    pub degrees-room : r ≤ most → next + length (listing (chosen current ds) ds r) ≤ length t
+    pub degrees-room : r ≤ most → next + length (listing (exponentsBefore current ds) ds r) ≤ length t
     degrees-room h =
         omega (arith, enough (r + 1) (omega arith), ap length one-more, length-append (spread [] r (exactly ds)) (listing [] ds r), ap length block, d .end, degrees-same)
 
@@ -75,7 +75,7 @@ module _ {t₀ current₀ ds : List ℕ} {most : ℕ} where
               omega (arith, l .end, d .end, ap length one-more, length-append (spread [] r (exactly ds)) (listing [] ds r), ap length block);
           written =
               l .written
-              ∙ ap₂ (λ (u : List ℕ) (i : ℕ). pasted u i (listing (chosen current ds) ds r)) (d .written) (d .end ∙ sym (zero-add _))
+              ∙ ap₂ (λ (u : List ℕ) (i : ℕ). pasted u i (listing (exponentsBefore current ds) ds r)) (d .written) (d .end ∙ sym (zero-add _))
               ∙ ap (pasted (pasted t₀ 0 (spread [] r (exactly ds))) (0 + length (spread [] r (exactly ds)))) block
               ∙ pasted-more t₀ 0 (spread [] r (exactly ds)) (listing [] ds r) zero-le
               ∙ ap (pasted t₀ 0) (sym one-more);

@@ -8,7 +8,7 @@ use native.Mathlib.Omega.{arith}
 use lib.ListN.{length, take, drop, set, length-append, length-drop, length-set}
 use lib.Seq.{take-suc-set, take-take, take-at, take-length, length-take-le}
 use Rattle.meaning.specs.Tables.{at}
-use Rattle.weighted_poly_fit.specs.Listing.{pasted, listing, chosen, Listed}
+use Rattle.weighted_poly_fit.specs.Listing.{pasted, listing, exponentsBefore, Listed}
 use Rattle.weighted_poly_fit.proofs.Pasted.{pasted-none, pasted-more, length-pasted}
 use Rattle.weighted_poly_fit.proofs.Listed.{spread, headed, spread-none, spread-headed, length-spread-le, listing-cons, listing-none, listing-rest}
 use Rattle.weighted_poly_fit.proofs.ColumnCount.{first-rest, rest-whole}
@@ -16,7 +16,7 @@ use Rattle.weighted_poly_fit.proofs.ColumnCount.{first-rest, rest-whole
 -- ---- no variable is left
 
 module _ (t : List ℕ) (a : ℕ) (current ds : List ℕ) (none : length ds ≡ 0) where
-  all : chosen current ds ≡ current
+  all : exponentsBefore current ds ≡ current
   all =
       let e : length current - length ds ≡ length current = omega arith in
       ap (λ (n : ℕ). take n current) e ∙ take-length current
@@ -29,8 +29,8 @@ module _ (t : List ℕ) (a : ℕ) (current ds : List ℕ) (none : length ds ≡ 
       go (x ∷ l) h = absurd (suc-ne-zero (length l) h)
 
   -- one list, where nothing of the sum is left
-  pub listing-last : (left : ℕ) → left ≡ 0 → listing (chosen current ds) ds left ≡ current
-  listing-last left h = ap₂ (λ (l : List ℕ) (n : ℕ). listing (chosen current ds) l n) empty h ∙ listing-none (chosen current ds) ∙ all
+  pub listing-last : (left : ℕ) → left ≡ 0 → listing (exponentsBefore current ds) ds left ≡ current
+  listing-last left h = ap₂ (λ (l : List ℕ) (n : ℕ). listing (exponentsBefore current ds) l n) empty h ∙ listing-none (exponentsBefore current ds) ∙ all
 
   pub listed-last : (left : ℕ) → left ≡ 0 → (t′ : List ℕ) → t′ ≡ pasted t a current → Listed t a current ds left t′ current (a + length current)
   listed-last left h t′ e =
@@ -42,10 +42,10 @@ module _ (t : List ℕ) (a : ℕ) (current ds : List ℕ) (none : length ds ≡ 
   listed-nothing left h =
       record { end = sym (ap (λ (xs : List ℕ). a + length xs) nothing ∙ add-zero a); written = pasted-none t a ∙ ap (pasted t a) (sym nothing); kept = refl }
     where
-      nothing : listing (chosen current ds) ds left ≡ []
+      nothing : listing (exponentsBefore current ds) ds left ≡ []
       nothing =
           let e : left ≡ suc (left - 1) = omega arith in
-          ap₂ (λ (l : List ℕ) (n : ℕ). listing (chosen current ds) l n) empty e ∙ listing-rest (chosen current ds) (left - 1)
+          ap₂ (λ (l : List ℕ) (n : ℕ). listing (exponentsBefore current ds) l n) empty e ∙ listing-rest (exponentsBefore current ds) (left - 1)
 
 -- ---- the exponents of the first variable
 
@@ -55,7 +55,7 @@ pub record Entry (t₀ : List ℕ) (a : ℕ) (current₀ ds : List ℕ) (left pl
   pub fits : length ds ≤ length current₀
   pub spot : place ≡ length current₀ - length ds
   pub top : highest ≡ min (at ds 0) left
-  pub room : a + length (listing (chosen current₀ ds) ds left) ≤ length t₀
+  pub room : a + length (listing (exponentsBefore current₀ ds) ds left) ≤ length t₀
 
 pub record Steps (t₀ : List ℕ) (a : ℕ) (current₀ ds : List ℕ) (left place highest : ℕ) (t current : List ℕ) (next e : ℕ) : Type 0 where
   pub entry : Entry t₀ a current₀ ds left place highest
@@ -82,12 +82,12 @@ module _ {t₀ : List ℕ} {a : ℕ} {current₀ ds : List ℕ} {left place high
     done n = spread (take place current₀) n (headed (drop 1 ds) left)
 
     -- the whole
-    whole : done (suc highest) ≡ listing (chosen current₀ ds) ds left
+    whole : done (suc highest) ≡ listing (exponentsBefore current₀ ds) ds left
     unfolding done
     whole =
         ap₂ (λ (p : ℕ) (n : ℕ). spread (take p current₀) (suc n) (headed (drop 1 ds) left)) (r .entry .spot) (r .entry .top)
-        ∙ listing-cons (chosen current₀ ds) (at ds 0) (drop 1 ds) left
-        ∙ ap (λ (l : List ℕ). listing (chosen current₀ ds) l left) (sym (first-rest ds (r .entry .some)))
+        ∙ listing-cons (exponentsBefore current₀ ds) (at ds 0) (drop 1 ds) left
+        ∙ ap (λ (l : List ℕ). listing (exponentsBefore current₀ ds) l left) (sym (first-rest ds (r .entry .some)))
 
     enough : (n : ℕ) → n ≤ suc highest → a + length (done n) ≤ length t₀
     unfolding done
@@ -105,13 +105,13 @@ module _ {t₀ : List ℕ} {a : ℕ} {current₀ ds : List ℕ} {left place high
         omega (arith, length-set current place e, ap length (rest-whole ds), length-drop 1 ds, r .entry .spot, r .entry .fits, r .entry .some, r .same)
 
     -- the exponents chosen with this one
-    chosen-next : chosen (set current place e) (take (length ds - 1) (drop 1 ds)) ≡ take place current₀ ++ (e ∷ [])
-    chosen-next =
+    before-next : exponentsBefore (set current place e) (take (length ds - 1) (drop 1 ds)) ≡ take place current₀ ++ (e ∷ [])
+    before-next =
         ap (λ (n : ℕ). take n (set current place e)) behind ∙ take-suc-set current place e steps-place ∙ ap (_++ (e ∷ [])) (r .kept)
 
-    block : listing (chosen (set current place e) (take (length ds - 1) (drop 1 ds))) (take (length ds - 1) (drop 1 ds)) (left - e)
+    block : listing (exponentsBefore (set current place e) (take (length ds - 1) (drop 1 ds))) (take (length ds - 1) (drop 1 ds)) (left - e)
         ≡ listing (take place current₀ ++ (e ∷ [])) (drop 1 ds) (left - e)
-    block = ap₂ (λ (p l : List ℕ). listing p l (left - e)) chosen-next (rest-whole ds)
+    block = ap₂ (λ (p l : List ℕ). listing p l (left - e)) before-next (rest-whole ds)
 
     one-more : done (e + 1) ≡ done e ++ listing (take place current₀ ++ (e ∷ [])) (drop 1 ds) (left - e)
     unfolding done
@@ -122,7 +122,7 @@ module _ {t₀ : List ℕ} {a : ℕ} {current₀ ds : List ℕ} {left place high
       pub steps-fits : length (take (length ds - 1) (drop 1 ds)) ≤ length (set current place e)
       steps-fits = omega (arith, length-set current place e, ap length (rest-whole ds), length-drop 1 ds, r .entry .fits, r .same)
 
-      pub steps-room : next + length (listing (chosen (set current place e) (take (length ds - 1) (drop 1 ds))) (take (length ds - 1) (drop 1 ds))
+      pub steps-room : next + length (listing (exponentsBefore (set current place e) (take (length ds - 1) (drop 1 ds))) (take (length ds - 1) (drop 1 ds))
           (left - e)) ≤ length t
       unfolding done
       steps-room =
@@ -158,7 +158,7 @@ module _ {t₀ : List ℕ} {a : ℕ} {current₀ ds : List ℕ} {left place high
                 );
             written =
                 l .written
-                ∙ ap₂ (λ (u : List ℕ) (i : ℕ). pasted u i (listing (chosen (set current place e) (take (length ds - 1) (drop 1 ds)))
+                ∙ ap₂ (λ (u : List ℕ) (i : ℕ). pasted u i (listing (exponentsBefore (set current place e) (take (length ds - 1) (drop 1 ds)))
                 (take (length ds - 1) (drop 1 ds)) (left - e))) (r .written) (r .end)
                 ∙ ap (pasted (pasted t₀ a (done e)) (a + length (done e))) block
                 ∙ pasted-more t₀ a (done e) _ (omega (arith, enough e (r .few)))
@@ -166,7 +166,7 @@ module _ {t₀ : List ℕ} {a : ℕ} {current₀ ds : List ℕ} {left place high
             same = s ∙ length-set current place e ∙ r .same;
             kept =
                 sym (take-take place (suc place) current′ (omega arith))
-                ∙ ap (take place) (ap (λ (i : ℕ). take i current′) (sym behind) ∙ l .kept ∙ chosen-next)
+                ∙ ap (take place) (ap (λ (i : ℕ). take i current′) (sym behind) ∙ l .kept ∙ before-next)
                 ∙ take-at (take place current₀) (e ∷ []) place (length-take-le place current₀ (omega (arith, r .entry .spot)));
           }
 
@@ -175,7 +175,7 @@ module _ {t₀ : List ℕ} {a : ℕ} {current₀ ds : List ℕ} {left place high
     unfolding done
     steps-done h =
         let last : e ≡ suc highest = omega (arith, r .few) in
-        let l : done e ≡ listing (chosen current₀ ds) ds left = ap done last ∙ whole in
+        let l : done e ≡ listing (exponentsBefore current₀ ds) ds left = ap done last ∙ whole in
         record {
           end = r .end ∙ ap (λ (xs : List ℕ). a + length xs) l;
           written = r .written ∙ ap (pasted t₀ a) l;

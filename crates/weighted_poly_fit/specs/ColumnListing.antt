@@ -92,11 +92,11 @@ in-map-of e (here d) = here (ap (e ∷_) d)
 in-map-of e (there i) = there (in-map-of e i)
 
 -- a list of the box with the sum r
-pub record Exact (ds : List ℕ) (r : ℕ) (g : List ℕ) : Type 0 where
+pub record ExactSum (ds : List ℕ) (r : ℕ) (g : List ℕ) : Type 0 where
   pub within : Within ds g
   pub sum-eq : total g ≡ r
 
-exactly-sound : (ds : List ℕ) (r : ℕ) {g : List ℕ} → In g (exactly ds r) → Exact ds r g
+exactly-sound : (ds : List ℕ) (r : ℕ) {g : List ℕ} → In g (exactly ds r) → ExactSum ds r g
 unfolding exactly total
 exactly-sound [] zero (here e) = rw e (record { within = none; sum-eq = refl })
 exactly-sound [] zero (there i) = absurd (in-nil i)
@@ -106,7 +106,7 @@ exactly-sound (d ∷ ds) r {g} i =
     let h = in-map (b .which) (exactly ds (r - b .which)) (b .inside) in
     let x = exactly-sound ds (r - b .which) (h .inside) in
     let l : b .which ≤ min d r = le-of-suc-le-suc (b .below) in
-    subst (Exact (d ∷ ds) r) (sym (h .whole))
+    subst (ExactSum (d ∷ ds) r) (sym (h .whole))
     (record { within = next (omega arith) (x .within); sum-eq = omega (arith, x .sum-eq) })
 
 exactly-complete : {ds g : List ℕ} → Within ds g → In g (exactly ds (total g))

@@ -16,12 +16,12 @@ unfolding joined exactly
 listing p ds r = joined (map (p ++_) (exactly ds r))
 
 -- the exponents of the variables before those of ds, which are the last
-abbrev pub chosen : List ℕ → List ℕ → List ℕ
-chosen current ds = take (length current - length ds) current
+abbrev pub exponentsBefore : List ℕ → List ℕ → List ℕ
+exponentsBefore current ds = take (length current - length ds) current
 
 -- the exponent lists with the sum `left` in the variables of ds, each behind the exponents chosen before, stand in the table from place a on; r is
 -- the place behind them, and the exponents chosen before are kept
 pub record Listed (t₀ : List ℕ) (a : ℕ) (current₀ ds : List ℕ) (left : ℕ) (t current : List ℕ) (r : ℕ) : Type 0 where
-  pub end : r ≡ a + length (listing (chosen current₀ ds) ds left)
-  pub written : t ≡ pasted t₀ a (listing (chosen current₀ ds) ds left)
-  pub kept : take (length current₀ - length ds) current ≡ chosen current₀ ds
+  pub end : r ≡ a + length (listing (exponentsBefore current₀ ds) ds left)
+  pub written : t ≡ pasted t₀ a (listing (exponentsBefore current₀ ds) ds left)
+  pub kept : take (length current₀ - length ds) current ≡ exponentsBefore current₀ ds

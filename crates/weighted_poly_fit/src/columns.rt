@@ -6,7 +6,7 @@ ghost use lib.ListN.{length};
 ghost use Rattle.meaning.specs.Boxes.{cells};
 ghost use Rattle.meaning.specs.Elimination.{joined};
 ghost use Rattle.meaning.specs.Fit.{columns};
-ghost use Rattle.weighted_poly_fit.specs.Listing.{pasted, listing, chosen, Listed};
+ghost use Rattle.weighted_poly_fit.specs.Listing.{pasted, listing, exponentsBefore, Listed};
 
 // The smaller of the two.
 fn lesser(a: usize, b: usize) -> usize
@@ -56,7 +56,7 @@ fn enumerate_basis_recurse(
     left: usize,
 ) -> usize
     requires { ⌜ length (now degrees) ≤ length (now current) ⌝ }
-    requires { ⌜ at + length (listing (chosen (now current) (now degrees)) (now degrees) left) ≤ length (now table) ⌝ }
+    requires { ⌜ at + length (listing (exponentsBefore (now current) (now degrees)) (now degrees) left) ≤ length (now table) ⌝ }
     ensures { λ r. ⌜ Listed (now (table .entry)) at (now (current .entry)) (now (degrees .entry)) left (now (table .exit)) (now (current .exit)) r ⌝ }
 {
     if degrees.len() == 0 {

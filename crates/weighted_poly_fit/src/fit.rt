@@ -17,7 +17,7 @@ use answers::Number;
 use answers::Refusal;
 
 // The smaller of two degrees.
-pub(crate) fn lesser_degree(a: u8, b: u8) -> u8
+pub fn lesser_degree(a: u8, b: u8) -> u8
     ensures { λ r. ⌜ r ≡ min a b ⌝ }
 {
     if a < b { a } else { b }

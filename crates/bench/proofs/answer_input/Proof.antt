@@ -6,7 +6,7 @@ use denote.Ref.{now}
 use Prim.Native.Nat.{ℕ}
 use Rattle.bench_file.specs.declared.answer.Written.{Written}
 use Rattle.bench.specs.Endings.{TextOf}
-use Rattle.bench.specs.EndingLaws.{answered, always-room}
+use Rattle.bench.proofs.EndingLaws.{answered, always-room}
 use Rattle.bench.proofs.answer_input.Statement.{statement}
 use Rattle.bench.proofs.answer_input.Tie as tie
 

@@ -6,7 +6,7 @@ use lib.ListN.{length}
 use lib.Seq.{length-take-le}
 use Rattle.bench.specs.declared.Ending.{Ending}
 use Rattle.bench.specs.Endings.{Answered}
-use Rattle.bench.specs.EndingLaws.{text-inside}
+use Rattle.bench.proofs.EndingLaws.{text-inside}
 use Rattle.bench.proofs.main.Statement.{statement}
 use Rattle.bench.proofs.main.Tie as tie
 

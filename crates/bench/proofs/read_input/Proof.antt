@@ -7,7 +7,7 @@ use borrow.Author.Needs.{needs}
 use native.Mathlib.Omega.{arith}
 use lib.ListN.{length}
 use Rattle.bench.specs.Answers.{Led}
-use Rattle.bench.specs.AnswerLaws.{led-none, led-next}
+use Rattle.bench.proofs.AnswerLaws.{led-none, led-next}
 use Rattle.bench.proofs.read_input.Tie as tie
 
 abbrev Inv-loop : tie.InvT-loop

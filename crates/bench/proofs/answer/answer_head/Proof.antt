@@ -8,7 +8,7 @@ use denote.Ref.{now}
 use Rattle.bench_file.specs.Layout.{Head}
 use Rattle.bench_file.specs.Printed.{printed, printedSize}
 use Rattle.bench.specs.Answers.{textOf}
-use Rattle.bench.specs.InputLaws.{low-head}
+use Rattle.bench.proofs.InputLaws.{low-head}
 use Rattle.bench.proofs.answer.answer_head.Statement.{statement}
 use Rattle.bench.proofs.answer.answer_head.Tie as tie
 

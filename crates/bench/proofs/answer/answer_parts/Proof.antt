@@ -9,7 +9,7 @@ use Prim.Native.Nat.{ℕ, _≤_}
 use lib.ListN.{take}
 use lib.Seq.{length-take-le}
 use Rattle.bench_file.specs.Printed.{printed, printedSize}
-use Rattle.bench.specs.AnswerLaws.{size-le, text-recovered}
+use Rattle.bench.proofs.AnswerLaws.{size-le, text-recovered}
 use Rattle.bench.proofs.answer.answer_parts.Statement.{statement}
 use Rattle.bench.proofs.answer.answer_parts.Tie as tie
 

@@ -8,7 +8,7 @@ use Rattle.bench_file.specs.Layout.{Content, Says, benchText}
 use Rattle.bench_file.specs.Printed.{printed, printedSize}
 use Rattle.bench_file.specs.declared.reader.Reading.{Reading}
 use Rattle.bench.specs.Answers.{lowHead, textOf, FedBy}
-use Rattle.bench.specs.InputLaws.{text-says}
+use Rattle.bench.proofs.InputLaws.{text-says}
 use Rattle.bench.proofs.answer.answer_text.Statement.{statement}
 use Rattle.bench.proofs.answer.answer_text.Tie as tie
 

@@ -7,7 +7,7 @@ use denote.Ref.{now}
 use Rattle.meaning.specs.Boxes.{cells}
 use Rattle.meaning.specs.Settings.{widthFits, byteLimit, limitedNumber, cube}
 use Rattle.meaning.specs.Calls.{reply}
-use Rattle.bench.specs.AnswerLaws.{box-told}
+use Rattle.bench.proofs.AnswerLaws.{box-told}
 use Rattle.bench.proofs.answer.box_cells.Statement.{statement}
 use Rattle.bench.proofs.answer.box_cells.Tie as tie
 

@@ -5,7 +5,7 @@ use mathlib.Core.List.{List}
 use denote.Ref.{now}
 use Prim.Native.Nat.{ℕ}
 use Rattle.bench_file.specs.Printed.{printed, printedSize}
-use Rattle.bench.specs.AnswerLaws.{text-after}
+use Rattle.bench.proofs.AnswerLaws.{text-after}
 use Rattle.bench.proofs.answer.recover_text.Statement.{statement}
 use Rattle.bench.proofs.answer.recover_text.Tie as tie
 

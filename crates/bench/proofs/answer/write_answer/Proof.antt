@@ -6,7 +6,7 @@ use denote.Ref.{now}
 use Prim.Native.Nat.{ℕ}
 use lib.ListN.{replicate}
 use Rattle.bench_file.specs.Printed.{printed, printedSize}
-use Rattle.bench.specs.AnswerLaws.{text-for-zero, text-for-pos}
+use Rattle.bench.proofs.AnswerLaws.{text-for-zero, text-for-pos}
 use Rattle.bench.proofs.answer.write_answer.Statement.{statement}
 use Rattle.bench.proofs.answer.write_answer.Tie as tie
 

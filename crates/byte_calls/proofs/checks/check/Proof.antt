@@ -12,7 +12,7 @@ use lib.ListN.{length, take, replicate}
 use lib.Seq.{length-take-le}
 use Rattle.byte_calls.specs.ByteLaws.{length-decoded}
 use Rattle.byte_calls.specs.Calls.{holds}
-use Rattle.byte_calls.specs.CallLaws.{box-uncounted, box-reply}
+use Rattle.byte_calls.proofs.CallLaws.{box-uncounted, box-reply}
 use Rattle.byte_calls.proofs.checks.check.Tie as tie
 
 -- the support has its count of entries

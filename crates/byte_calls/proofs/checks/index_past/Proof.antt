@@ -9,7 +9,7 @@ use denote.Ref.{now}
 use borrow.Author.Tests.{le-leb, lt-leb}
 use Rattle.meaning.specs.Settings.{some}
 use Rattle.byte_calls.specs.Bytes.{decoded}
-use Rattle.byte_calls.specs.CallLaws.{past-found, past-next, past-end}
+use Rattle.byte_calls.proofs.CallLaws.{past-found, past-next, past-end}
 use Rattle.byte_calls.proofs.checks.index_past.Tie as tie
 
 abbrev Inv-loop : tie.InvT-loop

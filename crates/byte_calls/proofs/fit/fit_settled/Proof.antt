@@ -5,7 +5,7 @@ use mathlib.Core.Path.{_∙_, ap}
 use Prim.Native.Nat.{_*_}
 use denote.Ref.{now}
 use Rattle.byte_calls.specs.TableLaws.{room}
-use Rattle.byte_calls.specs.ByteFits.{fit-sized, fit-wide}
+use Rattle.byte_calls.proofs.ByteFits.{fit-sized, fit-wide}
 use Rattle.byte_calls.proofs.fit.fit_settled.Tie as tie
 
 pub fit-settled-spec : {M : Type 1} → statement M

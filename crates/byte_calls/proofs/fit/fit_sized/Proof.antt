@@ -22,7 +22,7 @@ use Rattle.byte_calls.specs.Bytes.{decoded, encoded}
 use Rattle.byte_calls.specs.ByteLaws.{length-decoded}
 use Rattle.byte_calls.specs.Calls.{holds, fitHeld, fitBytesReply, fitBytesLeft}
 use Rattle.byte_calls.specs.TableLaws.{zeros, length-zeros}
-use Rattle.byte_calls.specs.ByteFits.{fit-large, fit-lengths, fit-done}
+use Rattle.byte_calls.proofs.ByteFits.{fit-large, fit-lengths, fit-done}
 use Rattle.byte_calls.proofs.fit.fit_sized.Tie as tie
 
 -- the fit that is asked for

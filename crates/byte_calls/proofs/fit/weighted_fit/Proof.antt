@@ -3,7 +3,7 @@ use Rattle.byte_calls.proofs.fit.weighted_fit.Statement.{statement}
 use borrow.Author.Needs.{needs}
 use denote.Ref.{now}
 use Rattle.byte_calls.specs.TableLaws.{boxed, unboxed}
-use Rattle.byte_calls.specs.ByteFits.{fit-turned}
+use Rattle.byte_calls.proofs.ByteFits.{fit-turned}
 use Rattle.byte_calls.proofs.fit.weighted_fit.Tie as tie
 
 pub weighted-fit-spec : {M : Type 1} → statement M

@@ -5,7 +5,7 @@ use borrow.Author.Needs.{needs}
 use borrow.Fn.PlainCycle.{Measures, is, falls, and}
 use Rattle.meaning.specs.Settings.{byteLimit}
 use Rattle.byte_calls.specs.TableLaws.{room, not-most}
-use Rattle.byte_calls.specs.ByteFits.{lent-fitted}
+use Rattle.byte_calls.proofs.ByteFits.{lent-fitted}
 use Rattle.byte_calls.proofs.rooms.fit_large.Reads as reads
 use Rattle.byte_calls.proofs.rooms.fit_large.Kinds as kinds
 use Rattle.byte_calls.proofs.rooms.+fit_large.Lts-fit_large as lts

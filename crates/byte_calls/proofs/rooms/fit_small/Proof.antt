@@ -3,7 +3,7 @@ use borrow.Author.Needs.{needs}
 use mathlib.Core.Path.{_∙_, ap}
 use Prim.Native.Nat.{_*_}
 use Rattle.byte_calls.specs.TableLaws.{room}
-use Rattle.byte_calls.specs.ByteFits.{lent-fitted}
+use Rattle.byte_calls.proofs.ByteFits.{lent-fitted}
 use Rattle.byte_calls.proofs.rooms.fit_small.Statement.{statement}
 use Rattle.byte_calls.proofs.rooms.fit_small.Tie as tie
 

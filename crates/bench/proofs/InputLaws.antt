@@ -17,7 +17,7 @@ use Rattle.bench_file.specs.Verdict.{lowered}
 use Rattle.bench_file.specs.declared.reader.Reading.{Reading}
 use Rattle.bench_file.specs.declared.reader.Reader.{Reader}
 use Rattle.bench.specs.Answers.{asked, lowHead, textOf, FedBy}
-use Rattle.bench.specs.AnswerLaws.{text-ill-head, text-ill-values, text-whole}
+use Rattle.bench.proofs.AnswerLaws.{text-ill-head, text-ill-values, text-whole}
 
 -- the parts of the reader's table of numbers, as the calls take them
 pub low-head : (hd : List ℕ) (d k : ℕ) → length hd ≡ 24 → d ≡ lowered (at hd 2) → k ≡ min (at hd 3) 20

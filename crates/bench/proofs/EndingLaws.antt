@@ -14,7 +14,7 @@ use Rattle.bench_file.specs.declared.answer.Written.{Written}
 use Rattle.bench_file.specs.declared.reader.Reading.{Reading}
 use Rattle.bench_file.specs.declared.reader.Reader.{Reader}
 use Rattle.bench.specs.Answers.{FedBy, Led, SaysText, LeavesText}
-use Rattle.bench.specs.RoomLaws.{text-room}
+use Rattle.bench.proofs.RoomLaws.{text-room}
 use Rattle.bench.specs.GridAnswers.{answering}
 use Rattle.bench.specs.Endings.{TextOf}
 

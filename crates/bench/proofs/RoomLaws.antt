@@ -17,7 +17,7 @@ use Rattle.bench_file.specs.Layout.{Head, Content, ill-head, ill-values, whole,
 use Rattle.bench_file.specs.PrintLaws.{length-accepted, length-refused, non-zeros-few}
 use Rattle.bench_file.specs.HeadLines.{lt-or-ge}
 use Rattle.theory.specs.AcceptedCalls.{first-zero}
-use Rattle.bench.specs.AnswerLaws.{head-settings, head-cells}
+use Rattle.bench.proofs.AnswerLaws.{head-settings, head-cells}
 
 -- no degree is 0 where strict settings pass
 no-zero-degree : (total : ℕ) (fits : Bool) (support ds : List ℕ) → settingsNumber true total fits support ds ≡ 0 → some (eqb 0) ds ≡ false
