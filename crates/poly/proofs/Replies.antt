@@ -181,19 +181,19 @@ module _ (f g : Form) where
         settings-pass zero k e = refl
         settings-pass (suc n) k e = e
 
--- five tests of which one is a no
-module _ (t1 t2 t3 t4 t5 : Bool) where
-  pub no-1 : t1 ≡ false → (t1 && t2 && t3 && t4 && t5) ≡ false
-  no-1 e = simp e
+-- two forms of which one part differs
+module _ (f g : Form) where
+  pub totals-differ : eqb (f .total) (g .total) ≡ false → sameForms f g ≡ false
+  totals-differ e = simp e
 
-  pub no-2 : t2 ≡ false → (t1 && t2 && t3 && t4 && t5) ≡ false
-  no-2 e = simp (e, and-false)
+  pub widths-differ : eqb (f .width) (g .width) ≡ false → sameForms f g ≡ false
+  widths-differ e = simp (e, and-false)
 
-  pub no-3 : t3 ≡ false → (t1 && t2 && t3 && t4 && t5) ≡ false
-  no-3 e = simp (e, and-false)
+  pub supports-differ : sameList (f .support) (g .support) ≡ false → sameForms f g ≡ false
+  supports-differ e = simp (e, and-false)
 
-  pub no-4 : t4 ≡ false → (t1 && t2 && t3 && t4 && t5) ≡ false
-  no-4 e = simp (e, and-false)
+  pub degrees-differ : sameList (f .degrees) (g .degrees) ≡ false → sameForms f g ≡ false
+  degrees-differ e = simp (e, and-false)
 
-  pub no-5 : t5 ≡ false → (t1 && t2 && t3 && t4 && t5) ≡ false
-  no-5 e = simp (e, and-false)
+  pub coefficients-differ : sameList (f .coefficients) (g .coefficients) ≡ false → sameForms f g ≡ false
+  coefficients-differ e = simp (e, and-false)

@@ -2,7 +2,8 @@
 use borrow.Author.Needs.{needs}
 use mathlib.Core.Path.{_∙_, sym}
 use mathlib.Core.Bool.{false}
-use Prim.Native.Nat.{_≤_}
+use mathlib.Core.List.{List}
+use Prim.Native.Nat.{ℕ, _≤_}
 use lib.ListN.{length}
 use borrow.Author.Tests.{eq-eqb, ne-eqb}
 use Rattle.meaning.specs.Settings.{tableLimit, widthFits, cube}
@@ -17,82 +18,74 @@ use denote.Ref.{now}
 use Rattle.poly.proofs.reduce.Statement.{statement}
 use Rattle.poly.proofs.reduce.Tie as tie
 
-check-requires : tie.Need-check-requires
-check-requires c κs = search needs
+-- the calls one behind the other: the settings, the length, the walk
+abbrev lent : tie.After-check → tie.Start
+lent c = c .before .before .before
 
-enum-known-refusal : tie.Need-enum-known-refusal
-enum-known-refusal c = search needs
+abbrev start : tie.After-count → tie.Start
+start c = lent (c .before .before)
 
-enum-known-count : tie.Need-enum-known-count
-enum-known-count c = search needs
+abbrev counted : tie.Else1 → tie.After-count
+counted c = c .before .before
+
+abbrev measured : tie.After-reduce → tie.Else1
+measured c = c .before .before .before
+
+-- the degrees that are asked for
+abbrev box : tie.Start → List ℕ
+box s = cube (s .args .support .now) (s .args .max-degree)
 
 -- the settings pass, with as many cells as they say
 ok : (c : tie.After-count) →
-    let k = c .before .before .before .before .before .args in
-    Settled false (k .total) (widthFits (k .bitwidth)) (k .support .now) (cube (k .support .now) (k .max-degree)) (c .count .given .0 .0)
+    let k = start c .args in
+    Settled false (k .total) (widthFits (k .bitwidth)) (k .support .now) (box (start c)) (c .count .given .0 .0)
 unfolding settingsReply
 ok c =
-    let k = c .before .before .before .before .before .args in
-    settled false (k .total) (widthFits (k .bitwidth)) (k .support .now) (cube (k .support .now) (k .max-degree)) (c .before .before .check .ensures) (c .count .given .1)
+    let k = start c .args in
+    settled false (k .total) (widthFits (k .bitwidth)) (k .support .now) (box (start c)) (c .before .before .check .ensures) (c .count .given .1)
 
 -- there are at most twenty variables
-short : (c : tie.After-count) → length (c .before .before .before .before .before .args .support .now) ≤ 20
+short : (c : tie.After-count) → length (start c .args .support .now) ≤ 20
 short c =
-    let k = c .before .before .before .before .before .args in
-    passes tableLimit false (k .total) (widthFits (k .bitwidth)) (k .support .now) (cube (k .support .now) (k .max-degree)) (ok c .passes) .short
+    let k = start c .args in
+    passes tableLimit false (k .total) (widthFits (k .bitwidth)) (k .support .now) (box (start c)) (ok c .passes) .short
 
 -- the settings are turned down
 turned : (c : tie.After-refusal) →
-    let k = c .before .before .before .before .before .args in
-    Unsettled false (k .total) (widthFits (k .bitwidth)) (k .support .now) (cube (k .support .now) (k .max-degree)) (c .refusal .given .0 .0)
+    let s = lent (c .before .before) in
+    Unsettled false (s .args .total) (widthFits (s .args .bitwidth)) (s .args .support .now) (box s) (c .refusal .given .0 .0)
 unfolding settingsReply
 turned c =
-    let k = c .before .before .before .before .before .args in
-    unsettled false (k .total) (widthFits (k .bitwidth)) (k .support .now) (cube (k .support .now) (k .max-degree)) (c .before .before .check .ensures) (c .refusal .given .1)
-
-returns : tie.Need-returns
-returns c =
-    let k = c .before .before .before .before .before .before .before .args in
-    reduce-length (k .bitwidth) (k .coeffs .now) (ok (c .before .before)) (ne-eqb _ _ (λ q. c .if1 .taken (q ∙ sym (ok (c .before .before) .counted))))
-
-array-share-prefix-degrees : tie.Need-array-share-prefix-degrees
-array-share-prefix-degrees c = short (c .before .before .before)
-
-slice-aggregate-reduce : tie.Need-slice-aggregate-reduce
-slice-aggregate-reduce c = sym (length-take-le _ _ (short (c .before .before .before .before)))
-
-reduce-requires : tie.Need-reduce-requires
-reduce-requires c κs = search needs
-
-returns-2 : tie.Need-returns-2
-returns-2 c = let k = c .before .before .before .before .before .before .args in reduce-turned (k .bitwidth) (k .coeffs .now) (turned (c .before))
-
-same-length : tie.Need-same-length
-same-length c = search needs
-
-returns-3 : tie.Need-returns-3
-returns-3 c =
-    let b = c .before .before .before .before .before .before .before in
-    let k = b .before .before .before .before .before .args in
-    let ds = cube (k .support .now) (k .max-degree) in
-    let same = take-cube (k .support .now) (k .max-degree) (short b) in
-    let long = c .before .before .before .before .before .if1 .left ∙ ok b .counted in
-    reduce-accepted (k .bitwidth) (k .coeffs .now) (ok b) (eq-eqb _ _ long)
-    (reduce-held ds (k .bitwidth) (settings-cells-le tableLimit false (k .total) (widthFits (k .bitwidth)) (k .support .now) ds (ok b .passes))
-    (width-high (k .bitwidth) (passes tableLimit false (k .total) (widthFits (k .bitwidth)) (k .support .now) ds (ok b .passes) .width)) (k .coeffs .now) _ long
-    (rw same at (c .before .before .reduce .ensures)))
+    let s = lent (c .before .before) in
+    unsettled false (s .args .total) (widthFits (s .args .bitwidth)) (s .args .support .now) (box s)
+    (c .before .before .check .ensures) (c .refusal .given .1)
 
 pub reduce-spec : {M : Type 1} → statement M
 reduce-spec =
     tie.close
     (tie.spec
-    check-requires
-    enum-known-refusal
-    enum-known-count
-    returns
-    array-share-prefix-degrees
-    slice-aggregate-reduce
-    reduce-requires
-    returns-2
-    same-length
-    returns-3)
+    (λ c κs. search needs) (λ c. search needs) (λ c. search needs)
+    (λ c.
+    let n = c .before .before in
+    let k = start n .args in
+    reduce-length (k .bitwidth) (k .coeffs .now) (ok n) (ne-eqb _ _ (λ q. c .if1 .taken (q ∙ sym (ok n .counted)))))
+    (λ c. short (counted (c .before)))
+    (λ c. let a = c .before in sym (length-take-le _ _ (short (counted (a .before)))))
+    (λ c κs. search needs)
+    (λ c.
+    let r = c .before in
+    let k = lent (r .before .before) .args in
+    reduce-turned (k .bitwidth) (k .coeffs .now) (turned r))
+    (λ c. search needs)
+    (λ c.
+    let r = c .before .before in
+    let e = measured r in
+    let b = counted e in
+    let k = start b .args in
+    let ds = box (start b) in
+    let same = take-cube (k .support .now) (k .max-degree) (short b) in
+    let long = e .if1 .left ∙ ok b .counted in
+    reduce-accepted (k .bitwidth) (k .coeffs .now) (ok b) (eq-eqb _ _ long)
+    (reduce-held ds (k .bitwidth) (settings-cells-le tableLimit false (k .total) (widthFits (k .bitwidth)) (k .support .now) ds (ok b .passes))
+    (width-high (k .bitwidth) (passes tableLimit false (k .total) (widthFits (k .bitwidth)) (k .support .now) ds (ok b .passes) .width)) (k .coeffs .now) _ long
+    (rw same at (r .reduce .ensures)))))
