@@ -188,7 +188,8 @@ pub +extract-box-spec : {M : Type 1} → statement M
     let i = l .inv in
     promise-split _ _ _ _ _ (s .args .part .now) _ _ (i .1 .split)
     (subBox-fails _ _ _ _ _ (s .args .part .now) (l .part) (l .bits) (l .from) (l .e) (i .0) (omega (arith, u .loop-test .taken)) (i .1 .whole) _ (i .1 .sized)
-    (s .args .inverses .now) (s .pre .1 .1 .table) (reached t u) _ (product t (k .before) .wrapping-mul .ensures) _ _ (k .extract-box .ensures) _ (not-true _ (c .if3 .taken))))
+    (s .args .inverses .now) (s .pre .1 .1 .table) (reached t u) _ (product t (k .before) .wrapping-mul .ensures) _ _
+    (k .extract-box .ensures) _ (not-true _ (c .if3 .taken))))
     (λ c. omega (arith, byte t (lends t (came t (c .before) .before))))
     (λ c κs. search needs)
     (λ c. search needs)
@@ -199,7 +200,8 @@ pub +extract-box-spec : {M : Type 1} → statement M
     let s = lent t (of-turn t u) in
     let i = l .inv in (
       subBoxes-step _ _ _ _ _ _ (l .part) (l .bits) (l .from) (l .e) (i .0) (omega (arith, u .loop-test .taken)) (i .1 .whole) _ (i .1 .sized)
-          (s .args .inverses .now) (s .pre .1 .1 .table) (reached t u) _ (product t (k .before) .wrapping-mul .ensures) _ _ (k .extract-box .ensures) _ (k .extract-box .kept .0)
+          (s .args .inverses .now) (s .pre .1 .1 .table) (reached t u) _ (product t (k .before) .wrapping-mul .ensures) _ _
+          (k .extract-box .ensures) _ (k .extract-box .kept .0)
           (not-false _ (c .before .if3 .left)) (c .bits-left .ensures),
       i .1,
       refl,
