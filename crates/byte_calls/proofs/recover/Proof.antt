@@ -12,8 +12,11 @@ use Rattle.byte_calls.proofs.recover.Statement.{statement}
 use Rattle.byte_calls.proofs.recover.Tie as tie
 
 -- the tests one behind the other: settings, values, output
+abbrev lent : tie.After-check → tie.Start
+lent c = c .before .before .before .before
+
 abbrev start : tie.After-cells → tie.Start
-start c = c .before .before .before .before .before .before
+start c = lent (c .before .before)
 
 abbrev values-tested : tie.Else2 → tie.Else1
 values-tested c = c .before .before .before
@@ -74,7 +77,7 @@ recover-spec =
     ((b .bytes, eqb-true _ _ (values-fit (values-tested e)), eqb-true _ _ (out-fits e)), (b .few, s .if3 .left, b .small)))
     (λ c.
     let b = c .before in
-    let k = b .before .before .before .before .before .before .args in
+    let k = lent (b .before .before) .args in
     recover-turned _ _ _ _ _ (now (k .values)) (now (k .out)) (b .refusal .given .0 .0)
     (unboxed _ _ _ _ _ _ (b .before .before .check .ensures) (b .refusal .given .1)))
     (λ c. search needs)

@@ -18,6 +18,19 @@ Inv-loop values size bitwidth out₀ from₀ out from = (from ≤ length values)
 abbrev μ-loop : tie.MeasureT-loop
 μ-loop values size bitwidth out₀ from₀ out from = length values - from
 
+-- what was lent, the turn of the loop, and its line
+abbrev start : tie.At-loop Inv-loop μ-loop → tie.Start Inv-loop μ-loop
+start l = l .before .before .before
+
+abbrev turn : tie.After-recover-line-arg2 Inv-loop μ-loop → tie.In-loop Inv-loop μ-loop
+turn c = c .before .before
+
+abbrev line : tie.After-slice-known2 Inv-loop μ-loop → tie.After-recover-line Inv-loop μ-loop
+line c = c .before .before
+
+abbrev of-line : tie.After-recover-line Inv-loop μ-loop → tie.At-loop Inv-loop μ-loop
+of-line c = turn (c .before) .before
+
 pub recover-lines-spec : {M : Type 1} → statement M
 recover-lines-spec =
     tie.close
@@ -25,38 +38,45 @@ recover-lines-spec =
     Inv-loop
     μ-loop
     (λ c. (zero-le, lines-start _ _ _ _))
-    (λ c.
-    search needs) (λ c. search needs) (λ c. search needs) (λ c. search needs) (λ c. search needs) (λ c. search needs) (λ c. search needs)
+    (λ c. search needs) (λ c. search needs) (λ c. search needs) (λ c. search needs) (λ c. search needs) (λ c. search needs) (λ c. search needs)
     (λ c. search needs) (λ c. search needs) (λ c. search needs)
     (λ c κs.
-    let b = c .before .before .before in let a = b .before .before .before .args in let p = b .before .before .before .pre in
-    let end = b .loop .from + a .size in let given = length-part (b .loop .from) end (now (a .values)) (omega arith) in
+    let b = turn c .before in
+    let a = start b .args in
+    let end = b .loop .from + a .size in
+    let given = length-part (b .loop .from) end (now (a .values)) (omega arith) in
     let room = length-part (b .loop .from) end (b .loop .out) (omega (arith, b .loop .inv .1 .filled .same)) in
-    (p .0, omega (arith, given), omega (arith, given), room ∙ sym given))
+    (start b .pre .0, omega (arith, given), omega (arith, given), room ∙ sym given))
     (λ c.
-    let b = c .before .before .before .before .before .before .before in let a = b .before .before .before .args in
-    let end = b .loop .from + a .size in let ys = c .before .before .before .recover-line .last .1 .1 .0 in
-    length-put (b .loop .from) end (b .loop .out) (omega (arith, b .loop .inv .1 .filled .same)) (omega arith) ys
-    (c .before .before .before .recover-line .kept .1 .1 .0 ∙ length-part (b .loop .from) end (b .loop .out)
-    (omega (arith, b .loop .inv .1 .filled .same))) ∙ b .loop .inv .1 .filled .same)
+    let x = line (c .before) in
+    let b = of-line x in
+    let end = b .loop .from + start b .args .size in
+    length-put (b .loop .from) end (b .loop .out) (omega (arith, b .loop .inv .1 .filled .same)) (omega arith) (x .recover-line .last .1 .1 .0)
+    (x .recover-line .kept .1 .1 .0 ∙ length-part (b .loop .from) end (b .loop .out) (omega (arith, b .loop .inv .1 .filled .same)))
+    ∙ b .loop .inv .1 .filled .same)
     (λ c.
-    let b = c .before .before .before .before .before .before .before in let a = b .before .before .before .args in
-    let ys = c .before .before .before .recover-line .last .1 .1 .0 in
+    let x = line (c .before) in
+    let b = of-line x in
+    let a = start b .args in
+    let ys = x .recover-line .last .1 .1 .0 in
     λ n whole. lines-fail (a .bitwidth) (a .size) (now (a .values)) (now (a .out)) (b .loop .out) (b .loop .from) (b .loop .inv .1) (omega arith)
     (omega arith) ys {n = n} whole (subst (λ (r : Bool). Single (a .bitwidth) (part (b .loop .from) (b .loop .from + a .size) (now (a .values))) ys r)
-    (not-true _ (c .if1 .taken)) (c .before .before .before .recover-line .ensures)))
+    (not-true _ (c .if1 .taken)) (x .recover-line .ensures)))
     (λ c. omega arith)
     (λ c.
-    let b = c .before .before .before .before .before .before .before in let a = b .before .before .before .args in
-    let ys = c .before .before .before .recover-line .last .1 .1 .0 in (
+    let x = line (c .before) in
+    let b = of-line x in
+    let a = start b .args in
+    let ys = x .recover-line .last .1 .1 .0 in (
       omega arith,
       lines-step (a .bitwidth) (a .size) (now (a .values)) (now (a .out)) (b .loop .out) (b .loop .from) (b .loop .inv .1) (omega arith)
-          (omega arith) ys (b .loop .inv .1 .filled .same ∙ b .before .before .before .pre .3)
+          (omega arith) ys (b .loop .inv .1 .filled .same ∙ start b .pre .3)
           (subst (λ (r : Bool). Single (a .bitwidth) (part (b .loop .from) (b .loop .from + a .size) (now (a .values))) ys r) (not-false _ (c .if1 .left))
-          (c .before .before .before .recover-line .ensures)),
+          (x .recover-line .ensures)),
     ))
     (λ c. c .before .loop .inv .1 .filled .same)
     (λ c.
-    let b = c .before in let a = b .before .before .before .args in
+    let b = c .before in
+    let a = start b .args in
     λ n whole. lines-done (a .bitwidth) (a .size) (now (a .values)) (now (a .out)) (b .loop .out) (b .loop .from) n (b .loop .inv .1)
-    (omega arith) whole (b .before .before .before .pre .3)))
+    (omega arith) whole (start b .pre .3)))

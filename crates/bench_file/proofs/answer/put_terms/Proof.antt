@@ -25,6 +25,16 @@ Inv-loop out₀ at coefficients degree variables next₀ cell₀ out next cell =
 abbrev μ-loop : tie.MeasureT-loop
 μ-loop out₀ at coefficients degree variables next₀ cell₀ out next cell = length coefficients - cell
 
+-- what was lent, and the turn of the loop
+abbrev start : tie.At-loop Inv-loop μ-loop → tie.Start Inv-loop μ-loop
+start c = c .before .before .before
+
+abbrev turn : tie.After-shared-slice-known2 Inv-loop μ-loop → tie.In-loop Inv-loop μ-loop
+turn c = c .before .before
+
+abbrev written : tie.After-slice-known2 Inv-loop μ-loop → tie.After-put-term Inv-loop μ-loop
+written c = c .before .before
+
 pub put-terms-spec : {M : Type 1} → statement M
 put-terms-spec =
     tie.close
@@ -34,28 +44,30 @@ put-terms-spec =
     (λ c. (omega arith, refl, refl, refl))
     (λ c. search needs) (λ c. search needs)
     (λ c κs.
-    let k = c .before .before .before in let a = c .before .before .before .before .before .before .args in
+    let u = turn c in
+    let k = u .before in
+    let a = start k .args in
     omega (
       arith,
-      c .before .before .before .before .before .before .pre,
+      start k .pre,
       k .loop .inv .1,
       k .loop .inv .2,
-      terms-next-length
-          (replicate (a .variables) (a .degree)) (now (a .coefficients)) (k .loop .cell) (c .before .before .loop-test .taken),
+      terms-next-length (replicate (a .variables) (a .degree)) (now (a .coefficients)) (k .loop .cell) (u .loop-test .taken),
     ))
     (λ c. search needs)
     (λ c. omega arith)
     (λ c.
-    let k = c .before .before .before .before .before .before in
-    let a = c .before .before .before .before .before .before .before .before .before .args in let p = c .before .before .put-term in
-    let more = c .before .before .before .before .before .loop-test .taken in (
+    let p = written c .put-term in
+    let u = turn (written c .before) in
+    let k = u .before in
+    let a = start k .args in
+    let more = u .loop-test .taken in (
       omega arith,
       omega (
         arith,
         k .loop .inv .1,
         p .ensures .0,
-        terms-next-length (replicate (a .variables) (a .degree)) (now (a .coefficients))
-            (k .loop .cell) more,
+        terms-next-length (replicate (a .variables) (a .degree)) (now (a .coefficients)) (k .loop .cell) more,
       ),
       p .kept .0 ∙ k .loop .inv .2,
       k .loop .inv .3 ∙ terms-stored (replicate (a .variables) (a .degree)) (now (a .coefficients))
@@ -63,6 +75,7 @@ put-terms-spec =
     ))
     (λ c. c .before .loop .inv .2)
     (λ c.
-    let k = c .before in let a = c .before .before .before .before .args in
+    let k = c .before in
+    let a = start k .args in
     let z = terms-end (replicate (a .variables) (a .degree)) (now (a .coefficients)) (k .loop .cell) (c .loop-test .left) in
     (omega (arith, k .loop .inv .1, ap length z), sym (k .loop .inv .3 ∙ ap (sets (k .loop .out) (k .loop .next)) z))))

@@ -8,8 +8,11 @@ use denote.Ref.{now}
 use Rattle.byte_calls.specs.Calls.{holds}
 use Rattle.byte_calls.proofs.fit.lengths_fit.Tie as tie
 
+abbrev start : tie.After-holds → tie.Start
+start c = c .before .before .before .before
+
 -- the weights pass
-first-holds : (c : tie.Else1) → holds (now (c .before .before .before .before .before .args .weights)) (c .before .before .before .before .before .args .rows) ≡ true
+first-holds : (c : tie.Else1) → let k = start (c .before) .args in holds (now (k .weights)) (k .rows) ≡ true
 first-holds c = sym (c .before .holds .ensures) ∙ not-false _ (c .if1 .left)
 
 pub lengths-fit-spec : {M : Type 1} → statement M
@@ -18,21 +21,19 @@ lengths-fit-spec =
     (tie.spec
     (λ c κs. search needs)
     (λ c.
-    let k = c .before .before .before .before .before .args in
+    let k = start (c .before) .args in
     sym
     (ap (λ (x : Bool). x && holds (now (k .targets)) (k .rows) && holds (now (k .out)) (k .cells))
     (sym (c .before .holds .ensures) ∙ not-true _ (c .if1 .taken))))
     (λ c κs. search needs)
     (λ c.
-    let k = c .before .before .before .before .before .before .before .args in
-    sym
-    (ap (_&& holds (now (k .out)) (k .cells))
-    (ap₂ _&&_ (first-holds (c .before .before)) (sym (c .before .holds2 .ensures) ∙ not-true _ (c .if2 .taken)))))
+    let w = c .before .before in
+    let k = start (w .before) .args in
+    sym (ap (_&& holds (now (k .out)) (k .cells)) (ap₂ _&&_ (first-holds w) (sym (c .before .holds2 .ensures) ∙ not-true _ (c .if2 .taken)))))
     (λ c κs. search needs)
     (λ c.
     let e = c .before in
-    let k = e .before .before .before .before .before .before .before .args in
+    let w = e .before .before in
+    let k = start (w .before) .args in
     c .holds3 .ensures
-    ∙ sym
-    (ap (_&& holds (now (k .out)) (k .cells))
-    (ap₂ _&&_ (first-holds (e .before .before)) (sym (e .before .holds2 .ensures) ∙ not-false _ (e .if2 .left))))))
+    ∙ sym (ap (_&& holds (now (k .out)) (k .cells)) (ap₂ _&&_ (first-holds w) (sym (e .before .holds2 .ensures) ∙ not-false _ (e .if2 .left))))))

@@ -7,14 +7,18 @@ use Rattle.byte_calls.proofs.ByteFits.{lent-fitted}
 use Rattle.byte_calls.proofs.rooms.fit_small.Statement.{statement}
 use Rattle.byte_calls.proofs.rooms.fit_small.Tie as tie
 
+-- what was lent, after the tables for what is given, and after those of the system
 abbrev start : tie.After-slice-known → tie.Start
 start c = c .before .before .before .before
 
-abbrev lent : tie.After-fit-in-arg → tie.After-slice-known
-lent c = c .before .before .before .before .before .before .before
+abbrev inputs : tie.After-wanted → tie.Start
+inputs c = start (c .before .before .before)
 
-abbrev solved : tie.After-slice-known2 → tie.After-fit-in
-solved c = c .before .before .before .before .before .before .before .before
+abbrev tables : tie.After-found → tie.Start
+tables c = inputs (c .before .before .before)
+
+abbrev fitted : tie.After-slice-known2 → tie.After-fit-in
+fitted c = c .before .before .before .before .before .before .before .before
 
 pub fit-small-spec : {M : Type 1} → statement M
 fit-small-spec =
@@ -23,12 +27,12 @@ fit-small-spec =
     (λ c. search needs)
     (λ c. search needs) (λ c. room _ 20 (start (c .before) .pre .1 .0))
     (λ c. search needs) (λ c. room _ 128 (start (c .before .before) .pre .1 .1))
-    (λ c. search needs) (λ c. room _ 128 (start (c .before .before .before) .pre .1 .1))
-    (λ c. search needs) (λ c. room _ 128 (start (c .before .before .before .before) .pre .1 .2))
-    (λ c. search needs) (λ c. room _ 128 (start (c .before .before .before .before .before) .pre .1 .1))
-    (λ c. search needs) (λ c. room _ 128 (start (c .before .before .before .before .before .before) .pre .1 .3))
+    (λ c. search needs) (λ c. room _ 128 (inputs c .pre .1 .1))
+    (λ c. search needs) (λ c. room _ 128 (inputs (c .before) .pre .1 .2))
+    (λ c. search needs) (λ c. room _ 128 (inputs (c .before .before) .pre .1 .1))
+    (λ c. search needs) (λ c. room _ 128 (tables c .pre .1 .3))
     (λ c κs.
-    let p = start (lent c) .pre in (
+    let p = tables (c .before) .pre in (
       p .0 .0 ∙ ap (_* 8) (room _ 20 (p .1 .0)),
       p .0 .1 ∙ ap (_* 8) (room _ 128 (p .1 .1)),
       p .0 .2 ∙ ap (_* 8) (room _ 128 (p .1 .1)),
@@ -36,6 +40,6 @@ fit-small-spec =
     ))
     (λ c. search needs)
     (λ c.
-    let r = solved c in
-    let p = start (lent (r .before)) .pre .1 in
+    let r = fitted c in
+    let p = tables (r .before .before) .pre .1 in
     lent-fitted _ _ _ _ _ _ _ _ _ _ 128 (p .2) (p .1) (p .3) (r .fit-in .ensures)))

@@ -20,85 +20,78 @@ use Rattle.answers.specs.Laws.{first-code, left-code}
 use Rattle.multivar_poly_recovery.proofs.grid.recover_checked.Statement.{statement}
 use Rattle.multivar_poly_recovery.proofs.grid.recover_checked.Tie as tie
 
-check-tables-requires : tie.Need-check-tables-requires
-check-tables-requires c κs = search needs
+-- the calls one behind the other: the checks, then the recovery
+abbrev start : tie.After-check-tables → tie.Start
+start c = c .before .before .before .before .before
 
-enum-known-refusal : tie.Need-enum-known-refusal
-enum-known-refusal c = search needs
+abbrev lent : tie.After-enum-told → tie.Start
+lent c = start (c .before .before)
 
-enum-told : tie.Need-enum-told
-enum-told c = search needs
+abbrev passed : tie.After-recover-from-grid → tie.After-enum-told
+passed c = c .before .before .before
+
+-- the degrees that are asked for
+abbrev box : tie.Start → List ℕ
+box s = cube (now (s .args .support)) (s .args .max-degree)
 
 -- settings and lengths pass
 accepted : (c : tie.After-enum-told) →
-    let k = c .before .before .before .before .before .before .before .args in
-    inOutNumber true (k .total) (k .bitwidth) (now (k .support)) (cube (now (k .support)) (k .max-degree)) (now (k .values)) (now (k .out)) ≡ 0
+    let k = lent c .args in inOutNumber true (k .total) (k .bitwidth) (now (k .support)) (box (lent c)) (now (k .values)) (now (k .out)) ≡ 0
 accepted c = sym (c .before .before .check-tables .ensures) ∙ ap saidNumber (c .enum-told .given .1)
 
 ok : (c : tie.After-enum-told) →
-    let k = c .before .before .before .before .before .before .before .args in
-    Ready true (k .total) (k .bitwidth) (now (k .support)) (cube (now (k .support)) (k .max-degree)) (now (k .values)) (now (k .out))
+    let k = lent c .args in Ready true (k .total) (k .bitwidth) (now (k .support)) (box (lent c)) (now (k .values)) (now (k .out))
 ok c = ready _ _ _ _ _ _ _ (accepted c)
 
 -- what recovery leaves where settings and lengths pass
 abbrev recoveredBox : ℕ → List ℕ → List ℕ → List ℕ
 recoveredBox w ds v = cond (accepts w ds v) (answer w ds v) (tabulate (cells ds) (λ i. 0))
 
-array-share-prefix-degrees : tie.Need-array-share-prefix-degrees
-array-share-prefix-degrees c = ready-passes (ok c) .short
-
-slice-aggregate-recover-from-grid : tie.Need-slice-aggregate-recover-from-grid
-slice-aggregate-recover-from-grid c = sym (length-take-le _ _ (ready-passes (ok (c .before)) .short))
-
 recover-from-grid-requires : tie.Need-recover-from-grid-requires
 recover-from-grid-requires c κs =
-    let r = ok (c .before .before) in
-    let k = c .before .before .before .before .before .before .before .before .before .args in
+    let p = c .before .before in
+    let r = ok p in
+    let k = lent p .args in
     let e = sym (take-cube (now (k .support)) (k .max-degree) (ready-passes r .short)) in
     let low = width-pos (k .bitwidth) (ready-passes r .width) in
     (r .given-length ∙ ap cells e, r .out-length ∙ ap cells e, omega (arith, low), ready-high r)
 
-same-length : tie.Need-same-length
-same-length c = search needs
-
-returns : tie.Need-returns
+refused : tie.Need-returns
 unfolding recoveryNumber recoveryLeft
-returns c =
-    let n = sym (c .before .before .before .check-tables .ensures) ∙ ap saidNumber (c .before .refusal .given .1) in
-    let r = c .before .refusal .given .0 .0 in
-    (sym (first-code r _ n), sym (left-code r _ _ n))
+refused c =
+    let r = c .before in
+    let n = sym (r .before .before .check-tables .ensures) ∙ ap saidNumber (r .refusal .given .1) in
+    (sym (first-code (r .refusal .given .0 .0) _ n), sym (left-code (r .refusal .given .0 .0) _ _ n))
 
-same-length-2 : tie.Need-same-length-2
-same-length-2 c = search needs
-
-returns-2 : tie.Need-returns-2
+recovered : tie.Need-returns-2
 unfolding recoveryNumber recoveryLeft
-returns-2 c =
-    let b = c .before .before .before .before .before in
-    let k = b .before .before .before .before .before .before .before .args in
-    let n = accepted b in
-    let e = take-cube (now (k .support)) (k .max-degree) (ready-passes (ok b) .short) in
+recovered c =
+    let r = c .before .before in
+    let p = passed r in
+    let k = lent p .args in
+    let n = accepted p in
+    let e = take-cube (now (k .support)) (k .max-degree) (ready-passes (ok p) .short) in
     let w = k .bitwidth in
     let v = now (k .values) in (
-      c .before .before .recover-from-grid .ensures .0
+      r .recover-from-grid .ensures .0
           ∙ ap (λ (ds : List ℕ). cond (accepts w ds v) 0 6) e
-          ∙ ap (λ (i : ℕ). first i (cond (accepts w (cube (now (k .support)) (k .max-degree)) v) 0 6)) (sym n),
-      c .before .before .recover-from-grid .ensures .1
+          ∙ ap (λ (i : ℕ). first i (cond (accepts w (box (lent p)) v) 0 6)) (sym n),
+      r .recover-from-grid .ensures .1
           ∙ ap (λ (ds : List ℕ). cond (accepts w ds v) (answer w ds v) (tabulate (cells ds) (λ i. 0))) e
-          ∙ ap (λ (i : ℕ). left i (recoveredBox w (cube (now (k .support)) (k .max-degree)) v) (now (k .out))) (sym n),
+          ∙ ap (λ (i : ℕ). left i (recoveredBox w (box (lent p)) v) (now (k .out))) (sym n),
     )
 
 pub recover-checked-spec : {M : Type 1} → statement M
 recover-checked-spec =
     tie.close
     (tie.spec
-    check-tables-requires
-    enum-known-refusal
-    enum-told
-    array-share-prefix-degrees
-    slice-aggregate-recover-from-grid
+    (λ c κs. search needs)
+    (λ c. search needs)
+    (λ c. search needs)
+    (λ c. ready-passes (ok c) .short)
+    (λ c. sym (length-take-le _ _ (ready-passes (ok (c .before)) .short)))
     recover-from-grid-requires
-    same-length
-    returns
-    same-length-2
-    returns-2)
+    (λ c. search needs)
+    refused
+    (λ c. search needs)
+    recovered)
