@@ -101,9 +101,9 @@ extern "C" {
 #define COBRA_RECOVER_STACK 98304u
 #define COBRA_VALUE_STACK 65536u
 #define COBRA_FIT_STACK 327680u
-#define COBRA_RECOVER_STACK_SMALL 8192u
+#define COBRA_RECOVER_STACK_SMALL 12288u
 #define COBRA_VALUE_STACK_SMALL 8192u
-#define COBRA_FIT_STACK_SMALL 98304u
+#define COBRA_FIT_STACK_SMALL 12288u
 
 /*
  * Recovers a polynomial from its values on a grid.
