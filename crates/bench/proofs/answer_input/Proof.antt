@@ -10,23 +10,35 @@ use Rattle.bench.proofs.EndingLaws.{answered, always-room}
 use Rattle.bench.proofs.answer_input.Statement.{statement}
 use Rattle.bench.proofs.answer_input.Tie as tie
 
+-- the steps one behind the other: the room, the reading, the text
+abbrev start : tie.After-cell-room → tie.Start
+start c = c .before .before
+
+abbrev room : tie.After-read-input → tie.After-cell-room
+room c = c .before .before
+
+abbrev input : tie.After-answer-text → tie.After-read-input
+input c = c .before .before .before .before .before .before .before
+
+abbrev written : tie.After-slice-known2 → tie.After-answer-text
+written c = c .before .before
+
 -- the text is there
 text : (a : tie.After-answer-text) (n : ℕ) → a .answer-text .result ≡ Written.Bytes n →
-    let k = a .before .before .before .before .before .before .before .before .before .before .before in
-    TextOf n (now (k .args .out)) (a .answer-text .last .1 .1 .0)
+    TextOf n (now (start (room (input a)) .args .out)) (a .answer-text .last .1 .1 .0)
 text a =
-    let i = a .before .before .before .before .before .before .before in
-    let z = i .before .before .cell-room in
-    let k = i .before .before .before .before in
+    let i = input a in
+    let z = room i .cell-room in
+    let k = start (room i) in
     answered (z .result) (z .ensures .1) (i .read-input .result .reader) (i .read-input .last .0) (now (k .args .out)) (a .answer-text .last .1 .1 .0)
     (a .answer-text .result) (i .read-input .ensures) (k .pre) (a .answer-text .ensures .0) (a .answer-text .ensures .1)
 
 -- and there is always room for it
 no-room : (a : tie.After-answer-text) → a .answer-text .result ≡ Written.NoRoom → ⊥
 no-room a =
-    let i = a .before .before .before .before .before .before .before in
-    let z = i .before .before .cell-room in
-    let k = i .before .before .before .before in
+    let i = input a in
+    let z = room i .cell-room in
+    let k = start (room i) in
     always-room (z .result) (z .ensures .1) (i .read-input .result .reader) (i .read-input .last .0) (now (k .args .out)) (a .answer-text .last .1 .1 .0)
     (a .answer-text .result) (i .read-input .ensures) (k .pre) (a .answer-text .ensures .0) (a .answer-text .ensures .1)
 
@@ -36,6 +48,6 @@ answer-input-spec = tie.close (tie.spec
     (λ c. search needs)
     (λ c. search needs) (λ c κs. search needs) (λ c. search needs) (λ c. search needs)
     (λ c. search needs)
-    (λ c. text (c .before .before .before .before .before) (c .before .size .given .0 .0) (c .before .size .given .1))
+    (λ c. let s = c .before in text (written (s .before .before)) (s .size .given .0 .0) (s .size .given .1))
     (λ c. search needs)
-    (λ c. absurd (no-room (c .before .before .before .before) (c .enum-told .given .1))))
+    (λ c. absurd (no-room (written (c .before .before)) (c .enum-told .given .1))))

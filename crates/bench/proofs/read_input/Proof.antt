@@ -17,6 +17,16 @@ Inv-loop values₀ piece₀ reader₀ turns₀ values piece reader turns =
 abbrev μ-loop : tie.MeasureT-loop
 μ-loop values₀ piece₀ reader₀ turns₀ values piece reader turns = turns
 
+-- the steps of a turn: a piece is read, tested and fed
+abbrev turn : tie.After-piece2 Inv-loop μ-loop → tie.At-loop Inv-loop μ-loop
+turn c = c .before .before .before .before
+
+abbrev piece : tie.Else2 Inv-loop μ-loop → tie.After-piece2 Inv-loop μ-loop
+piece c = c .before .before
+
+abbrev tested : tie.After-feed Inv-loop μ-loop → tie.Else2 Inv-loop μ-loop
+tested c = c .before .before .before .before .before
+
 pub read-input-spec : {M : Type 1} → statement M
 read-input-spec =
     tie.close
@@ -25,25 +35,28 @@ read-input-spec =
     μ-loop
     (λ c κs. search needs)
     (λ c κs. search needs)
-    (λ c. (refl, c .before .large-buffer .ensures, led-none (now (c .before .before .before .args .values)) (c .new .result) (c .new .ensures)))
+    (λ c.
+    let b = c .before in
+    (refl, b .large-buffer .ensures, led-none (now (b .before .before .args .values)) (c .new .result) (c .new .ensures)))
     (λ c. search needs)
     (λ c. c .before .before .loop .inv .1)
     (λ c κs. search needs)
-    (λ c. c .before .before .before .before .before .loop .inv .0)
-    (λ c. c .before .before .before .before .before .loop .inv .2)
-    (λ c. c .before .before .before .before .before .before .loop .inv .0)
-    (λ c. c .before .before .before .before .before .before .loop .inv .2)
-    (λ c. c .before .before .before .before .before .before .before .loop .inv .1 ∙ sym (c .before .before .before .before .read .kept .1 .0))
+    (λ c. turn (c .before) .loop .inv .0)
+    (λ c. turn (c .before) .loop .inv .2)
+    (λ c. turn (c .before .before) .loop .inv .0)
+    (λ c. turn (c .before .before) .loop .inv .2)
+    (λ c. let p = piece (c .before) in turn p .loop .inv .1 ∙ sym (p .before .read .kept .1 .0))
     (λ c κs. search needs)
     (λ c. search needs)
     (λ c. search needs)
     (λ c κs. search needs)
     (λ c. omega arith)
-    (λ c. let f = c .before .before in
-    let r = f .before .before .before .before .before .before .before .before in
-    let k = r .before .before .before .loop in (
+    (λ c.
+    let f = c .before .before in
+    let p = piece (tested f) in
+    let k = turn p .loop in (
       f .feed .kept .1 .1 .0 ∙ k .inv .0,
-      k .inv .1 ∙ sym (r .read .kept .1 .0),
+      k .inv .1 ∙ sym (p .before .read .kept .1 .0),
       led-next _ (k .reader) (k .values) _ (f .feed .result) _ (k .inv .2) (f .feed .ensures),
     ))
     (λ c. c .before .loop .inv .0)

@@ -54,30 +54,38 @@ recover-singleton-powers-spec =
     (λ c.
     let s = c .before in
     let k = s .before .before .args in
-    let e = too-many (k .num-vars) (k .bitwidth) (now (k .values)) (now (k .out)) (c .if1 .taken) in
-    (sym (settings-number (k .num-vars) (k .bitwidth) (now (k .values)) (now (k .out)) 1 e), sym (settings-left (k .num-vars) (k .bitwidth) (now (k .values)) (now (k .out)) 1 e)))
+    let e = too-many (k .num-vars) (k .bitwidth) (now (k .values)) (now (k .out)) (c .if1 .taken) in (
+      sym (settings-number (k .num-vars) (k .bitwidth) (now (k .values)) (now (k .out)) 1 e),
+      sym (settings-left (k .num-vars) (k .bitwidth) (now (k .values)) (now (k .out)) 1 e),
+    ))
     (λ c κs. search needs) (λ c. search needs) (λ c. search needs)
     (λ c.
     let d = c .before .before in
     let k = lent d .args in
     let e = bad-width (k .num-vars) (k .bitwidth) (now (k .values)) (now (k .out)) (d .before .if1 .left)
-    (uncapped (k .bitwidth) (d .degree-cap .ensures) (c .enum-told .given .1)) in
-    (sym (settings-number (k .num-vars) (k .bitwidth) (now (k .values)) (now (k .out)) 2 e), sym (settings-left (k .num-vars) (k .bitwidth) (now (k .values)) (now (k .out)) 2 e)))
+    (uncapped (k .bitwidth) (d .degree-cap .ensures) (c .enum-told .given .1)) in (
+      sym (settings-number (k .num-vars) (k .bitwidth) (now (k .values)) (now (k .out)) 2 e),
+      sym (settings-left (k .num-vars) (k .bitwidth) (now (k .values)) (now (k .out)) 2 e),
+    ))
     (λ c. omega (arith, capped-count (ok (c .before))))
     (λ c.
     let b = c .before .before in
     let k = start b .args in
     let o = ok b in
     let e = wrong-given (k .num-vars) (k .bitwidth) (now (k .values)) (now (k .out)) (o .few) (o .fits)
-    (λ q. c .if2 .taken (q ∙ ap (k .num-vars *_) (sym (o .cap)))) in
-    (sym (settings-number (k .num-vars) (k .bitwidth) (now (k .values)) (now (k .out)) 8 e), sym (settings-left (k .num-vars) (k .bitwidth) (now (k .values)) (now (k .out)) 8 e)))
+    (λ q. c .if2 .taken (q ∙ ap (k .num-vars *_) (sym (o .cap)))) in (
+      sym (settings-number (k .num-vars) (k .bitwidth) (now (k .values)) (now (k .out)) 8 e),
+      sym (settings-left (k .num-vars) (k .bitwidth) (now (k .values)) (now (k .out)) 8 e),
+    ))
     (λ c.
     let b = cap-of (c .before) in
     let k = start b .args in
     let o = ok b in
     let e = wrong-out (k .num-vars) (k .bitwidth) (now (k .values)) (now (k .out)) (o .few) (o .fits)
-    (c .before .if2 .left ∙ ap (k .num-vars *_) (o .cap)) (λ q. c .if3 .taken (q ∙ ap (k .num-vars *_) (sym (o .cap)))) in
-    (sym (settings-number (k .num-vars) (k .bitwidth) (now (k .values)) (now (k .out)) 8 e), sym (settings-left (k .num-vars) (k .bitwidth) (now (k .values)) (now (k .out)) 8 e)))
+    (c .before .if2 .left ∙ ap (k .num-vars *_) (o .cap)) (λ q. c .if3 .taken (q ∙ ap (k .num-vars *_) (sym (o .cap)))) in (
+      sym (settings-number (k .num-vars) (k .bitwidth) (now (k .values)) (now (k .out)) 8 e),
+      sym (settings-left (k .num-vars) (k .bitwidth) (now (k .values)) (now (k .out)) 8 e),
+    ))
     (λ c κs.
     let e = c .before in
     let o = ok (cap-of (e .before)) in

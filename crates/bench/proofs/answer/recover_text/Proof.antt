@@ -9,16 +9,31 @@ use Rattle.bench.proofs.AnswerLaws.{text-after}
 use Rattle.bench.proofs.answer.recover_text.Statement.{statement}
 use Rattle.bench.proofs.answer.recover_text.Tie as tie
 
+-- the calls one behind the other: the settings, recovery, its number, the verdict, the text
+abbrev start : tie.After-narrow → tie.Start
+start c = c .before .before .before .before .before
+
+abbrev narrowed : tie.After-recover-multivar-poly → tie.After-narrow2
+narrowed c = c .before .before
+
+abbrev recovered : tie.After-outcome-code → tie.After-recover-multivar-poly
+recovered c = c .before .before .before
+
+abbrev judged : tie.After-write-answer → tie.After-verdict-of
+judged c = c .before .before .before
+
 returns : tie.Need-returns
 returns c =
-    let w = c .before .before .write-answer in
-    let v = c .before .before .before .before .before .verdict-of in
-    let o = c .before .before .before .before .before .before .outcome-code in
-    let q = c .before .before .before .before .before .before .before .before .before in
-    let r = q .recover-multivar-poly in
-    let m = q .before .before .narrow2 in
-    let n = q .before .before .before .narrow in
-    let k = q .before .before .before .before .before .before .before .before .args in
+    let x = c .before .before in
+    let w = x .write-answer in
+    let v = judged x .verdict-of in
+    let d = judged x .before in
+    let o = d .outcome-code in
+    let r = recovered d .recover-multivar-poly in
+    let h = narrowed (recovered d) in
+    let m = h .narrow2 in
+    let n = h .before .narrow in
+    let k = start (h .before) .args in
     let e = text-after (k .width) (k .total) (k .degree) (now (k .support)) (k .reading) (k .settings) (k .exact) (now (k .values)) (now (k .coefficients))
     (n .result) (m .result) (o .result) (v .result) _ (n .ensures) (m .ensures) (o .ensures ∙ r .ensures .0) (r .ensures .1 .0) (v .ensures) in
     (w .ensures .0 ∙ ap (λ (x : List ℕ). printedSize x (now (k .out))) e, w .ensures .1 ∙ ap (λ (x : List ℕ). printed x (now (k .out))) e)

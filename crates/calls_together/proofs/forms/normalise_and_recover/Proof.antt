@@ -5,6 +5,13 @@ use Rattle.calls_together.proofs.Together.{normal-follows}
 use Rattle.calls_together.proofs.forms.normalise_and_recover.Statement.{statement}
 use Rattle.calls_together.proofs.forms.normalise_and_recover.Tie as tie
 
+-- the calls one behind the other: the normal form, then the recovery
+abbrev start : tie.After-normalize-polynomial → tie.Start
+start c = c .before .before .before .before .before .before .before
+
+abbrev normal : tie.After-recover-multivar-poly → tie.After-normalize-polynomial
+normal c = c .before .before .before .before
+
 pub normalise-and-recover-spec : {M : Type 1} → statement M
 normalise-and-recover-spec =
     tie.close
@@ -12,7 +19,6 @@ normalise-and-recover-spec =
     (λ c κs. search needs) (λ c κs. search needs)
     (λ c. search needs) (λ c. search needs)
     (λ c p h a e zero.
-    let recovered = c .before .before in
-    let normal = recovered .before .before .before .before in
-    let k = normal .before .before .before .before .before .before .before .args in
-    normal-follows (recovered .recover-multivar-poly .ensures .1 .1) zero (now (k .normal)) (normal .normalize-polynomial .ensures .1 .1) p h a e))
+    let r = c .before .before in
+    let n = normal r in
+    normal-follows (r .recover-multivar-poly .ensures .1 .1) zero (now (start n .args .normal)) (n .normalize-polynomial .ensures .1 .1) p h a e))

@@ -5,6 +5,19 @@ use Rattle.calls_together.proofs.Together.{sum-follows}
 use Rattle.calls_together.proofs.grids.recover_sum.Statement.{statement}
 use Rattle.calls_together.proofs.grids.recover_sum.Tie as tie
 
+-- the calls one behind the other: three recoveries, then the sum
+abbrev start : tie.After-recover-multivar-poly → tie.Start
+start c = c .before .before .before .before .before .before .before .before .before .before
+
+abbrev first : tie.After-recover-multivar-poly2 → tie.After-recover-multivar-poly
+first c = c .before .before .before .before
+
+abbrev second : tie.After-recover-multivar-poly3 → tie.After-recover-multivar-poly2
+second c = c .before .before .before .before
+
+abbrev third : tie.After-sum → tie.After-recover-multivar-poly3
+third c = c .before .before .before .before .before .before
+
 pub recover-sum-spec : {M : Type 1} → statement M
 recover-sum-spec =
     tie.close
@@ -13,9 +26,8 @@ recover-sum-spec =
     (λ c. search needs) (λ c. search needs) (λ c. search needs) (λ c. search needs)
     (λ c.
     let total = c .before .before in
-    let third = total .before .before .before .before .before .before in
-    let second = third .before .before .before .before in
-    let first = second .before .before .before .before in
-    let k = first .before .before .before .before .before .before .before .before .before .before .args in
-    sum-follows (now (k .s)) (first .recover-multivar-poly .ensures .1 .1) (second .recover-multivar-poly2 .ensures .1 .1)
-    (third .recover-multivar-poly3 .ensures .1 .1) (total .sum .ensures .1 .1)))
+    let z = third total in
+    let y = second z in
+    let x = first y in
+    sum-follows (now (start x .args .s)) (x .recover-multivar-poly .ensures .1 .1) (y .recover-multivar-poly2 .ensures .1 .1)
+    (z .recover-multivar-poly3 .ensures .1 .1) (total .sum .ensures .1 .1)))
