@@ -19,3 +19,4 @@ pub mod Calls
 pub mod Singletons
 pub mod Elimination
 pub mod Fit
+pub mod Counts

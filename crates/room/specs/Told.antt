@@ -1,0 +1,8 @@
+-- The number and the counts that an answer says.
+use Rattle.meaning.specs.Counts.{RecoveryRoom, recoveryRoomOf}
+use Rattle.answers.specs.Said.{code}
+use Rattle.room.specs.declared.RecoveryRoom as answer
+
+abbrev pub roomSaid : answer.RecoveryRoom → RecoveryRoom
+roomSaid (answer.RecoveryRoom.Counts c s) = recoveryRoomOf 0 c s
+roomSaid (answer.RecoveryRoom.Refused r) = recoveryRoomOf (code r) 0 0
