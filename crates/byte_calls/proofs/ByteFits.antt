@@ -13,12 +13,12 @@ use Rattle.meaning.specs.Boxes.{cells}
 use Rattle.meaning.specs.Replies.{Reply, refused}
 use Rattle.meaning.specs.Settings.{byteLimit, cube, first}
 use Rattle.meaning.specs.Calls.{reply, left}
-use Rattle.meaning.specs.Fit.{Fit, fitOf, fitRows, fitColumns, fitCause, fitNumber, fitReply, fitOut, fitState, fitSucceeds, fitAnswer, degreeUsed}
+use Rattle.meaning.specs.Fit.{Fit, fitOf, fitRows, fitColumns, fitSettingsNumber, fitCause, fitNumber, fitReply, fitOut, fitState, fitSucceeds, fitAnswer, degreeUsed}
 use Rattle.answers.specs.declared.Refusal.{Refusal}
 use Rattle.answers.specs.declared.Number.{Number}
 use Rattle.answers.specs.Said.{code, said}
 use Rattle.answers.specs.Laws.{code-suc, number-accepted, value-accepted, number-refused, reply-code, first-code, left-code}
-use Rattle.weighted_poly_fit.specs.Sizes.{fitSettings, sizeCause, columnsReply}
+use Rattle.weighted_poly_fit.specs.Sizes.{fitSettings, columnsReply}
 use Rattle.byte_calls.specs.Bytes.{decoded, encoded}
 use Rattle.byte_calls.specs.ByteLaws.{length-decoded}
 use Rattle.byte_calls.specs.Calls.{holds, boxNumber, fitHeld, fitBytesCause, fitBytesReply, fitBytesLeft}
@@ -64,7 +64,7 @@ module _ (count total w : ℕ) (support : List ℕ) (most grid : ℕ) (weights t
     pub fit-lengths : (r : Refusal) → code r ≡ 9 → entries ≤ byteLimit → lengths ≡ false → Turned count support weights targets out asked (code r)
     fit-lengths r q h e = turned r (cause false (le-ltb byteLimit entries h) false e ∙ sym q)
 
-    size : sizeCause (fitSettings total w (decoded support) most grid) ≡ cond (ltb 65536 entries) 8 0
+    size : fitSettingsNumber (fitSettings total w (decoded support) most grid) ≡ cond (ltb 65536 entries) 8 0
     size = ap (λ (n : ℕ). first n (cond (ltb 65536 entries) 8 0)) (b .settles .passes)
 
     -- the columns as the fit counts them from the settings alone
@@ -73,7 +73,7 @@ module _ (count total w : ℕ) (support : List ℕ) (most grid : ℕ) (weights t
       pub fit-sized : {cols : ℕ} → answer ≡ Number.Value cols → (cols ≡ length (fitColumns asked)) × (rows * cols ≤ 65536)
       fit-sized {cols} e =
           let told = sym (ap said e) ∙ says in
-          let number = sizeCause (fitSettings total w (decoded support) most grid) in
+          let number = fitSettingsNumber (fitSettings total w (decoded support) most grid) in
           let none = sym size ∙ number-accepted number (length (fitColumns asked)) told in
           let counted = value-accepted number (length (fitColumns asked)) told in (
             counted,
@@ -89,7 +89,7 @@ module _ (count total w : ℕ) (support : List ℕ) (most grid : ℕ) (weights t
       fit-wide {r} e = by-cases (ltb 65536 entries) refl
         where
           told : cond (ltb 65536 entries) 8 0 ≡ code r
-          told = sym size ∙ number-refused r (sizeCause (fitSettings total w (decoded support) most grid)) (length (fitColumns asked)) (sym (ap said e) ∙ says)
+          told = sym size ∙ number-refused r (fitSettingsNumber (fitSettings total w (decoded support) most grid)) (length (fitColumns asked)) (sym (ap said e) ∙ says)
 
           by-cases : (x : Bool) → ltb 65536 entries ≡ x → Turned count support weights targets out asked (code r)
           by-cases true q =
@@ -110,8 +110,8 @@ module _ (count total w : ℕ) (support : List ℕ) (most grid : ℕ) (weights t
       lent-cause : fitCause lent ≡ 0
       unfolding fitCause
       lent-cause =
-          ap₂ first (b .settles .passes)
-          (ap₂ (λ (x y : Bool). first (cond x 8 0) (cond y 0 9)) (le-ltb 65536 entries (omega (arith, small)))
+          ap₂ first (ap₂ first (b .settles .passes) (ap (λ (x : Bool). cond x 8 0) (le-ltb 65536 entries (omega (arith, small)))))
+          (ap (λ (y : Bool). cond y 0 9)
           (ap₂ _&&_ (ap₂ _&&_ (ap₂ _&&_ (ap₂ _&&_ (long weights hw) (long targets ht)) (eq-eqb _ _ lm)) (eq-eqb _ _ lr)) (eq-eqb _ _ lf)))
 
       held-cause : fitBytesCause count support weights targets out asked ≡ 0

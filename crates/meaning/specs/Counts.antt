@@ -57,5 +57,5 @@ fitRoomOf number r c =
     record { number = number; row-count = counted number r; column-count = counted number c; entry-count = counted number (r * c) }
 
 unfoldable pub fitRoom : Fit → FitRoom
-unfolding fitSettingsNumber columns cells
+unfolding limitedNumber columns cells
 fitRoom f = fitRoomOf (fitSettingsNumber f) (fitRows f) (length (fitColumns f))

@@ -121,15 +121,13 @@ fitColumns f = columns (f .degrees) (f .most)
 
 -- the number of the first cause that the settings alone show, in the order 1, 2, 3, 5, 7, 8, or 0. 8 is for a grid, and for a matrix, of more than
 -- 65,536 entries: as there is always a column, and no degree of the answer's box is above the grid's, a box that is too large is among them.
-unfoldable pub fitSettingsNumber : Fit → ℕ
-unfolding limitedNumber columns cells
+abbrev pub fitSettingsNumber : Fit → ℕ
 fitSettingsNumber f =
     first (settingsNumber false (f .variables) (widthFits (f .width)) (f .support) (f .grid))
     (cond (ltb tableLimit (fitRows f * length (fitColumns f))) 8 0)
 
 -- every lent table has its exact length
-unfoldable pub fitLengths : Fit → Bool
-unfolding columns cells
+abbrev pub fitLengths : Fit → Bool
 fitLengths f =
     eqb (length (f .weights)) (fitRows f)
     && eqb (length (f .targets)) (fitRows f)
@@ -139,7 +137,7 @@ fitLengths f =
 
 -- the number of the first cause before anything is eliminated: the settings, then 9, or 0
 unfoldable pub fitCause : Fit → ℕ
-unfolding fitSettingsNumber fitLengths
+unfolding limitedNumber columns cells
 fitCause f = first (fitSettingsNumber f) (cond (fitLengths f) 0 9)
 
 -- what the elimination makes of the system

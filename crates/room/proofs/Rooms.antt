@@ -3,13 +3,13 @@ use mathlib.Core.Path.{_≡_, refl, sym, ap, ap₂, _∙_}
 use mathlib.Core.Bool.{true}
 use mathlib.Core.List.{List}
 use Prim.Native.Nat.{ℕ, zero, suc, _+_, _*_, _^_, _≤_, _<_, zero-le}
-use native.Mathlib.Nat.{suc-ne-zero, mul-le-mul, le-trans, le-of-eq, pow-suc, pow-zero, mul-comm, le-mul-of-pos-right}
+use native.Mathlib.Nat.{suc-ne-zero, mul-le-mul, le-trans, le-of-eq, mul-comm, le-mul-of-pos-right}
 use native.Mathlib.Omega.{arith}
 use lib.ListN.{length, replicate}
 use Rattle.meaning.specs.Boxes.{cells}
 use Rattle.meaning.specs.Settings.{tableLimit, widthFits, cube, settingsNumber, limitedNumber}
 use Rattle.meaning.specs.Counts.{subtractions, recoveryRoomOf, recoveryRoom}
-use Rattle.theory.specs.Boxes.{cells-pos}
+use Rattle.theory.specs.Boxes.{cells-pos, cells-power}
 use Rattle.answers.specs.declared.Refusal.{Refusal}
 use Rattle.answers.specs.Said.{code}
 use Rattle.answers.specs.Laws.{code-suc}
@@ -17,13 +17,7 @@ use Rattle.settings.specs.Causes.{Passes, passes, settings-cells-le}
 use Rattle.room.specs.Subtractions.{twice-cube}
 use Rattle.room.specs.Promises.{Costs}
 
--- a box with one degree
-cells-power : (k d : ℕ) → cells (replicate k d) ≡ suc d ^ k
-unfolding cells
-cells-power zero d = sym (pow-zero (suc d))
-cells-power (suc k) d = ap (_* suc d) (cells-power k d) ∙ sym (pow-suc (suc d) k)
-
--- its degree is below its cells
+-- the degree of a box with one degree is below its cells
 degree-below : (k d : ℕ) → 0 < k → d < cells (replicate k d)
 unfolding cells
 degree-below zero d h = omega arith

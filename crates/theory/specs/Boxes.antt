@@ -1,12 +1,12 @@
 -- Laws of boxes: cell numbers and exponent lists correspond, and a sum over a box is a flat sum over its cells.
 -- Every law is an induction over the variables. A cell number is `cell ds es * suc d + e`, so each step is division by suc d with remainder.
 use mathlib.Core.Path.{_≡_, refl, sym, ap, ap₂, _∙_}
-use Prim.Native.Nat.{ℕ, suc, _+_, _*_, _/_, _%_, _<_, suc-le-suc}
+use Prim.Native.Nat.{ℕ, zero, suc, _+_, _*_, _/_, _%_, _^_, _<_, suc-le-suc}
 use mathlib.Core.List.{List, [], _∷_}
-use native.Mathlib.Nat.{zero-lt-suc, le-of-suc-le-suc, mod-lt, mul-pos, div-add-mod', div-lt-iff-lt-mul}
+use native.Mathlib.Nat.{zero-lt-suc, le-of-suc-le-suc, mod-lt, mul-pos, div-add-mod', div-lt-iff-lt-mul, pow-zero, pow-suc}
 use native.Mathlib.Omega.{arith}
 use lib.Arith.{digits-lt, digits-div, digits-mod}
-use lib.ListN.{length}
+use lib.ListN.{length, replicate}
 use Rattle.meaning.specs.Sums.{sum}
 use Rattle.meaning.specs.Boxes.{cells, digits, cell, Within, none, next, boxSum}
 use Rattle.theory.specs.Congruence.{Cong}
@@ -17,6 +17,12 @@ pub cells-pos : (ds : List ℕ) → 0 < cells ds
 unfolding cells
 cells-pos [] = zero-lt-suc 0
 cells-pos (d ∷ ds) = mul-pos (cells-pos ds) (zero-lt-suc d)
+
+-- a box with one degree
+pub cells-power : (k d : ℕ) → cells (replicate k d) ≡ suc d ^ k
+unfolding cells
+cells-power zero d = sym (pow-zero (suc d))
+cells-power (suc k) d = ap (_* suc d) (cells-power k d) ∙ sym (pow-suc (suc d) k)
 
 -- the list of a cell number lies within the box
 pub digits-within : (ds : List ℕ) (n : ℕ) → Within ds (digits ds n)

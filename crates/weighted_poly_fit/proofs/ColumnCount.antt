@@ -1,4 +1,4 @@
--- How many columns there are: by the exponents of the first variable, and no more than the box has cells.
+-- How many columns there are: the sum over the exponents of the first variable, and no more than the box has cells.
 use mathlib.Core.Path.{_≡_, refl, sym, ap, ap₂, _∙_}
 use mathlib.Core.Bool.{Bool, true, false, cond}
 use mathlib.Core.List.{List, [], _∷_, map}
@@ -122,14 +122,7 @@ count-cons d ds (suc m) =
         ∙ omega (arith, sum-last (suc m) X, both (suc m) (omega arith), last, sum-last (suc m) whole)
         ∙ ap (λ (i : ℕ). sum i whole) (sym b)
 
--- ---- the sum over the exponents of the first variable
-
--- the first exponents below e are counted
-pub record Counting (ds : List ℕ) (most highest count e : ℕ) : Type 0 where
-  pub some : 0 < length ds
-  pub top : highest ≡ min (at ds 0) most
-  pub few : e ≤ suc highest
-  pub counted : count ≡ sum e (λ i. length (columns (drop 1 ds) (most - i)))
+-- ---- the first variable and the others
 
 pub first-rest : (ds : List ℕ) → 0 < length ds → ds ≡ at ds 0 ∷ drop 1 ds
 first-rest ds h = drop-cons ds 0 0 h
@@ -137,46 +130,3 @@ first-rest ds h = drop-cons ds 0 0 h
 -- the others, as a part that is lent
 pub rest-whole : (ds : List ℕ) → take (length ds - 1) (drop 1 ds) ≡ drop 1 ds
 rest-whole ds = take-all (length ds - 1) (drop 1 ds) (le-of-eq (length-drop 1 ds))
-
-pub count-empty : (ds : List ℕ) (most : ℕ) → length ds ≡ 0 → 1 ≡ length (columns ds most)
-count-empty [] most h = sym (count-none most)
-count-empty (d ∷ ds) most h = absurd (suc-ne-zero (length ds) h)
-
-cells-first : (ds : List ℕ) → 0 < length ds → cells ds ≡ cells (drop 1 ds) * suc (at ds 0)
-unfolding cells
-cells-first ds h = ap cells (first-rest ds h)
-
-pub cells-rest-le : (ds : List ℕ) → 0 < length ds → cells (take (length ds - 1) (drop 1 ds)) ≤ cells ds
-cells-rest-le ds h =
-    le-trans (le-of-eq (ap cells (rest-whole ds)))
-    (le-trans (le-mul-of-pos-right (cells (drop 1 ds)) (zero-lt-suc (at ds 0))) (le-of-eq (sym (cells-first ds h))))
-
-pub counting-start : (ds : List ℕ) (most highest : ℕ) → 0 < length ds → highest ≡ min (at ds 0) most → Counting ds most highest 0 0
-unfolding sum
-counting-start ds most highest h e = record { some = h; top = e; few = zero-le; counted = refl }
-
-module _ {ds : List ℕ} {most highest count e : ℕ} (r : Counting ds most highest count e) where
-  pub counting-next : (n : ℕ) → e ≤ highest → n ≡ length (columns (take (length ds - 1) (drop 1 ds)) (most - e))
-      → Counting ds most highest (count + n) (e + 1)
-  counting-next n h k =
-      record {
-        some = r .some;
-        top = r .top;
-        few = omega arith;
-        counted = ap₂ _+_ (r .counted) (k ∙ ap (λ (l : List ℕ). length (columns l (most - e))) (rest-whole ds)) ∙ sym (sum-last e (λ j. length (columns (drop 1 ds) (most - j)))) ∙ ap (λ (i : ℕ). sum i (λ j. length (columns (drop 1 ds) (most - j)))) (sym (add-one e));
-      }
-
-  pub counting-le : count ≤ cells ds
-  counting-le =
-      let a : sum e (λ i. length (columns (drop 1 ds) (most - i))) ≤ e * cells (drop 1 ds) =
-      sum-le e (cells (drop 1 ds)) (λ i. columns-le-cells (drop 1 ds) (most - i)) in
-      let b : e * cells (drop 1 ds) ≤ suc (at ds 0) * cells (drop 1 ds) = mul-le-mul-right (cells (drop 1 ds)) (omega (arith, r .few, r .top)) in
-      omega (arith, a, b, r .counted, cells-first ds (r .some), mul-comm (cells (drop 1 ds)) (suc (at ds 0)))
-
-  pub counting-done : highest < e → count ≡ length (columns ds most)
-  counting-done h =
-      let all : e ≡ suc (min (at ds 0) most) = omega (arith, r .few, r .top) in
-      r .counted
-      ∙ ap (λ (i : ℕ). sum i (λ j. length (columns (drop 1 ds) (most - j)))) all
-      ∙ sym (count-cons (at ds 0) (drop 1 ds) most)
-      ∙ ap (λ (l : List ℕ). length (columns l most)) (sym (first-rest ds (r .some)))

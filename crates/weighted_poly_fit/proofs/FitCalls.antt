@@ -5,20 +5,20 @@ use mathlib.Core.List.{List}
 use Prim.Native.Nat.{ℕ, zero, suc, _+_, _*_, _≤_, _<_}
 use native.Mathlib.Nat.{mul-le-mul, le-trans, le-of-eq, lt-irrefl}
 use native.Mathlib.Omega.{arith}
-use borrow.Author.Tests.{lt-ltb, le-ltb, ltb-false, ltb-true, eqb-true}
+use borrow.Author.Tests.{ltb-false, ltb-true, eqb-true}
 use lib.Dec.{ltb, eqb}
 use lib.ListN.{length, replicate}
 use Rattle.meaning.specs.Tables.{at, tabulate}
 use Rattle.meaning.specs.Boxes.{cells}
 use Rattle.meaning.specs.Replies.{Reply, refused}
-use Rattle.meaning.specs.Settings.{widthFits, settingsNumber, first}
+use Rattle.meaning.specs.Settings.{first}
 use Rattle.meaning.specs.Calls.{reply, left}
-use Rattle.meaning.specs.Fit.{columns, fitSystem, degreeUsed, Fit, fitRows, fitColumns}
+use Rattle.meaning.specs.Fit.{columns, fitSystem, degreeUsed, Fit, fitRows, fitColumns, fitSettingsNumber, fitLengths}
 use Rattle.meaning.specs.Fit.{fitCause, fitState, fitSucceeds, fitAnswer, fitNumber, fitReply, fitOut, fitMatrix, fitRight}
 use Rattle.answers.specs.declared.Refusal.{Refusal}
 use Rattle.answers.specs.Said.{code}
 use Rattle.answers.specs.Laws.{reply-code, first-code, left-code}
-use Rattle.weighted_poly_fit.specs.Fitting.{Answered, Exact, Fitted, fitWith, fitLengths, tableCause}
+use Rattle.weighted_poly_fit.specs.Fitting.{Answered, Exact, Fitted, fitWith, lengthsCause}
 use Rattle.weighted_poly_fit.specs.Fits.{Called}
 use Rattle.weighted_poly_fit.proofs.ColumnCount.{columns-le-cells}
 
@@ -55,15 +55,10 @@ fitted-refused f cause r e =
       leaves-right = sym (left-code r _ (f .right) e);
     }
 
--- the causes after the settings, in their order
-pub cause-size : (f : Fit) → 65536 < fitRows f * length (fitColumns f) → tableCause f ≡ 8
-cause-size f h = ap (λ (b : Bool). first (cond b 8 0) (cond (fitLengths f) 0 9)) (lt-ltb 65536 _ h)
+-- the entries of the matrix, and the tests of the lengths, in the words of the code
+pub entries-eq : (f : Fit) {rows cols : ℕ} → rows ≡ fitRows f → cols ≡ length (fitColumns f) → rows * cols ≡ fitRows f * length (fitColumns f)
+entries-eq f r c = ap₂ _*_ r c
 
-pub cause-lengths : (f : Fit) (b : Bool) → fitRows f * length (fitColumns f) ≤ 65536 → fitLengths f ≡ b → tableCause f ≡ cond b 0 9
-cause-lengths f b h e =
-    ap (λ (b : Bool). first (cond b 8 0) (cond (fitLengths f) 0 9)) (le-ltb 65536 _ h) ∙ ap (λ (b : Bool). cond b 0 9) e
-
--- the tests of the lengths, in the words of the code
 pub lengths-eq : (f : Fit) (rows entries count : ℕ) → rows ≡ fitRows f → entries ≡ fitRows f * length (fitColumns f) → count ≡ cells (f .degrees)
     → (eqb (length (f .weights)) rows
     && eqb (length (f .targets)) rows
@@ -107,9 +102,10 @@ pub exact-columns : {f : Fit} {cols n : ℕ} → Exact f cols → cols ≡ n →
 exact-columns {f} e p = subst (Exact f) p e
 
 -- a fit without cause
-pub fitted-passed : (f : Fit) → fitRows f * length (fitColumns f) ≤ 65536 → fitLengths f ≡ true → {matrix right out : List ℕ} {r : Reply}
-    → Fitted f 0 matrix right out r → Fitted f (tableCause f) matrix right out r
-fitted-passed f h e {matrix} {right} {out} {r} k = subst (λ (n : ℕ). Fitted f n matrix right out r) (sym (cause-lengths f true h e)) k
+pub fitted-passed : (f : Fit) → fitLengths f ≡ true → {matrix right out : List ℕ} {r : Reply}
+    → Fitted f 0 matrix right out r → Fitted f (lengthsCause f) matrix right out r
+fitted-passed f e {matrix} {right} {out} {r} k =
+    subst (λ (n : ℕ). Fitted f n matrix right out r) (sym (ap (λ (b : Bool). cond b 0 9) e)) k
 
 -- equal degrees
 module _ (w most : ℕ) (weights targets matrix₀ right₀ out₀ : List ℕ) where
@@ -117,10 +113,10 @@ module _ (w most : ℕ) (weights targets matrix₀ right₀ out₀ : List ℕ) w
   fit ds gs = fitWith w ds gs most weights targets matrix₀ right₀ out₀
 
   pub fitted-degrees : {ds ds′ gs gs′ : List ℕ} → ds ≡ ds′ → gs ≡ gs′ → {matrix right out : List ℕ} {r : Reply}
-      → Fitted (fit ds gs) (tableCause (fit ds gs)) matrix right out r → Fitted (fit ds′ gs′) (tableCause (fit ds′ gs′)) matrix right out r
+      → Fitted (fit ds gs) (lengthsCause (fit ds gs)) matrix right out r → Fitted (fit ds′ gs′) (lengthsCause (fit ds′ gs′)) matrix right out r
   fitted-degrees {ds} {ds′} {gs} {gs′} d g {matrix} {right} {out} {r} k =
-      subst (λ (l : List ℕ). Fitted (fit ds′ l) (tableCause (fit ds′ l)) matrix right out r) g
-      (subst (λ (l : List ℕ). Fitted (fit l gs) (tableCause (fit l gs)) matrix right out r) d k)
+      subst (λ (l : List ℕ). Fitted (fit ds′ l) (lengthsCause (fit ds′ l)) matrix right out r) g
+      (subst (λ (l : List ℕ). Fitted (fit l gs) (lengthsCause (fit l gs)) matrix right out r) d k)
 
 -- the solved system is the fit's, and the scratch tables end as zeros
 pub fitted-solved : (f : Fit) (rows cols : ℕ) (A : ℕ → ℕ → ℕ) (matrix right out : List ℕ) (r : Reply) → rows ≡ fitRows f
@@ -147,12 +143,12 @@ settled f = fitWith (f .width) (f .degrees) (f .grid) (f .most) (f .weights) (f 
 
 module _ (f : Fit) where
   -- the settings pass
-  pub call-settled : settingsNumber false (f .variables) (widthFits (f .width)) (f .support) (f .grid) ≡ 0 → (matrix right out : List ℕ) (r : Reply)
-      → Fitted (settled f) (tableCause (settled f)) matrix right out r
+  pub call-settled : fitSettingsNumber f ≡ 0 → (matrix right out : List ℕ) (r : Reply)
+      → Fitted (settled f) (lengthsCause (settled f)) matrix right out r
       → Called f matrix right out r
   unfolding fitReply fitNumber fitOut fitMatrix fitRight fitCause fitSucceeds fitAnswer fitState
   call-settled e matrix right out r h =
-      let n : tableCause (settled f) ≡ fitCause f = sym (ap (λ (k : ℕ). first k (tableCause (settled f))) e) in (
+      let n : lengthsCause (settled f) ≡ fitCause f = sym (ap (λ (k : ℕ). first k (lengthsCause (settled f))) e) in (
         h .says ∙ ap (λ (k : ℕ). reply (first k (cond (fitSucceeds f) 0 10)) (degreeUsed (f .degrees) (fitAnswer f))) n,
         (
           h .leaves-out ∙ ap (λ (k : ℕ). left k (cond (fitSucceeds f) (fitAnswer f) (tabulate (cells (f .degrees)) (λ n. 0))) (f .out)) n,
@@ -161,12 +157,12 @@ module _ (f : Fit) where
         ),
       )
 
-  cause-turned : (r : Refusal) → settingsNumber false (f .variables) (widthFits (f .width)) (f .support) (f .grid) ≡ code r → fitCause f ≡ code r
+  cause-turned : (r : Refusal) → fitSettingsNumber f ≡ code r → fitCause f ≡ code r
   unfolding fitCause
-  cause-turned r e = first-code r (tableCause (settled f)) e
+  cause-turned r e = first-code r (lengthsCause (settled f)) e
 
   -- the settings are turned down
-  pub call-turned : (r : Refusal) → settingsNumber false (f .variables) (widthFits (f .width)) (f .support) (f .grid) ≡ code r
+  pub call-turned : (r : Refusal) → fitSettingsNumber f ≡ code r
       → Called f (f .matrix) (f .right) (f .out) (refused (code r))
   unfolding fitReply fitNumber fitOut fitMatrix fitRight
   call-turned r e =

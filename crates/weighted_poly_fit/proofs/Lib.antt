@@ -2,6 +2,8 @@
 pub mod Pasted
 pub mod Listed
 pub mod ColumnCount
+pub mod RunningSums
+pub mod SizeLaws
 pub mod Steps
 pub mod ByDegrees
 pub mod Entries

@@ -1,9 +1,8 @@
 -- What the parts of the fit ask and promise: the system is solved into a box, and the tables are left as the call leaves them.
 use mathlib.Core.Path.{_≡_}
-use mathlib.Core.Bool.{Bool, true, _&&_, cond}
+use mathlib.Core.Bool.{true, cond}
 use mathlib.Core.List.{List, []}
 use Prim.Native.Nat.{ℕ, _*_, _≤_, _<_}
-use lib.Dec.{ltb, eqb}
 use lib.ListN.{length}
 use Rattle.meaning.specs.Tables.{tabulate, at}
 use Rattle.meaning.specs.Boxes.{cells}
@@ -11,7 +10,7 @@ use Rattle.meaning.specs.Replies.{Reply}
 use Rattle.meaning.specs.Settings.{widthFits, first}
 use Rattle.meaning.specs.Calls.{reply, left}
 use Rattle.meaning.specs.Elimination.{eliminated, substituted, succeeds}
-use Rattle.meaning.specs.Fit.{fitBox, degreeUsed, Fit, fitRows, fitColumns, fitSucceeds, fitAnswer}
+use Rattle.meaning.specs.Fit.{fitBox, degreeUsed, Fit, fitRows, fitColumns, fitLengths, fitSucceeds, fitAnswer}
 
 -- ---- the system
 
@@ -62,16 +61,7 @@ fitWith w ds gs most weights targets matrix right out =
       out = out;
     }
 
--- every lent table has its exact length
-abbrev pub fitLengths : Fit → Bool
-fitLengths f =
-    eqb (length (f .weights)) (fitRows f)
-    && eqb (length (f .targets)) (fitRows f)
-    && eqb (length (f .matrix)) (fitRows f * length (fitColumns f))
-    && eqb (length (f .right)) (fitRows f)
-    && eqb (length (f .out)) (cells (f .degrees))
-
--- the same for a fit with `cols` columns, which is small enough
+-- every lent table of a fit with `cols` columns, which is small enough, has its exact length
 pub record Exact (f : Fit) (cols : ℕ) : Type 0 where
   pub weights-long : length (f .weights) ≡ fitRows f
   pub targets-long : length (f .targets) ≡ fitRows f
@@ -83,9 +73,9 @@ pub record Exact (f : Fit) (cols : ℕ) : Type 0 where
   pub matrix-small : length (f .matrix) ≤ 65536
   pub box-small : cells (f .degrees) ≤ 65536
 
--- the causes after the settings: 8 for the matrix, then 9, or 0
-abbrev pub tableCause : Fit → ℕ
-tableCause f = first (cond (ltb 65536 (fitRows f * length (fitColumns f))) 8 0) (cond (fitLengths f) 0 9)
+-- the cause after the settings: 9, or 0
+abbrev pub lengthsCause : Fit → ℕ
+lengthsCause f = cond (fitLengths f) 0 9
 
 -- the reply r and the tables at the end, where `cause` is the number of the first cause before anything is eliminated, or 0
 pub record Fitted (f : Fit) (cause : ℕ) (matrix right out : List ℕ) (r : Reply) : Type 0 where

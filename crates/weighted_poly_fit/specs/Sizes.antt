@@ -1,24 +1,23 @@
--- The sizes of a fit, from its settings alone.
-use mathlib.Core.Bool.{false, cond}
+-- The sizes of a fit, from its settings alone: what the answers say.
 use mathlib.Core.List.{List, []}
-use Prim.Native.Nat.{ℕ, _*_}
-use lib.Dec.{ltb}
+use Prim.Native.Nat.{ℕ}
 use lib.ListN.{length}
 use Rattle.meaning.specs.Replies.{Reply}
-use Rattle.meaning.specs.Settings.{widthFits, settingsNumber, first}
 use Rattle.meaning.specs.Calls.{reply}
-use Rattle.meaning.specs.Fit.{Fit, fitOf, fitRows, fitColumns}
+use Rattle.meaning.specs.Fit.{Fit, fitOf, fitColumns, fitSettingsNumber}
+use Rattle.meaning.specs.Counts.{FitRoom, fitRoomOf}
+use Rattle.answers.specs.Said.{code}
+use Rattle.weighted_poly_fit.specs.declared.sizes.FitRoom as answer
 
 -- a fit whose tables are left open: total variables, width, support, max_degree, grid_degree
 abbrev pub fitSettings : ℕ → ℕ → List ℕ → ℕ → ℕ → Fit
 fitSettings total w support max-degree grid-degree = fitOf total w support max-degree grid-degree [] [] [] [] []
 
--- the first cause before the tables are looked at: the settings, then 8 for the matrix
-abbrev pub sizeCause : Fit → ℕ
-sizeCause f =
-    first (settingsNumber false (f .variables) (widthFits (f .width)) (f .support) (f .grid))
-    (cond (ltb 65536 (fitRows f * length (fitColumns f))) 8 0)
+-- the number and the counts that an answer says
+abbrev pub fitRoomSaid : answer.FitRoom → FitRoom
+fitRoomSaid (answer.FitRoom.Counts r c e) = record { number = 0; row-count = r; column-count = c; entry-count = e }
+fitRoomSaid (answer.FitRoom.Refused r) = fitRoomOf (code r) 0 0
 
 -- the number of columns
 abbrev pub columnsReply : Fit → Reply
-columnsReply f = reply (sizeCause f) (length (fitColumns f))
+columnsReply f = reply (fitSettingsNumber f) (length (fitColumns f))

@@ -3,7 +3,6 @@
 ghost use mathlib.Core.Path.{_≡_};
 ghost use Prim.Native.Nat.{_+_, _*_, _≤_, min};
 ghost use lib.ListN.{length};
-ghost use Rattle.meaning.specs.Boxes.{cells};
 ghost use Rattle.meaning.specs.Elimination.{joined};
 ghost use Rattle.meaning.specs.Fit.{columns};
 ghost use Rattle.weighted_poly_fit.specs.Listing.{pasted, listing, exponentsBefore, Listed};
@@ -13,24 +12,6 @@ fn lesser(a: usize, b: usize) -> usize
     ensures { λ r. ⌜ r ≡ min a b ⌝ }
 {
     if a < b { a } else { b }
-}
-
-// How many columns there are, without listing them: a sum over the exponents of the first variable.
-pub(crate) fn count_columns(degrees: &[u8], most: usize) -> usize
-    requires { ⌜ cells (now degrees) ≤ 65536 ⌝ }
-    ensures { λ r. ⌜ r ≡ length (columns (now (degrees .entry)) most) ⌝ }
-{
-    if degrees.len() == 0 {
-        return 1;
-    }
-    let highest = lesser(degrees[0] as usize, most);
-    let mut count = 0;
-    let mut e = 0;
-    while e <= highest {
-        count += count_columns(&degrees[1..], most - e);
-        e += 1;
-    }
-    count
 }
 
 // Copies a list of exponents into the table, from place `at` on.

@@ -6,12 +6,13 @@ ghost use lib.Dec.{eqb};
 ghost use lib.ListN.{length};
 ghost use Rattle.meaning.specs.Boxes.{cells};
 ghost use Rattle.meaning.specs.Settings.{cube};
-ghost use Rattle.meaning.specs.Fit.{fitOf};
-ghost use Rattle.weighted_poly_fit.specs.Fitting.{Shaped, Exact, Fitted, fitWith, tableCause};
+ghost use Rattle.meaning.specs.Fit.{columns, fitOf};
+ghost use Rattle.weighted_poly_fit.specs.Fitting.{Shaped, Exact, Fitted, fitWith, lengthsCause};
 ghost use Rattle.weighted_poly_fit.specs.Fits.{Called, Fits};
 ghost use Rattle.answers.specs.Said.{said};
-use crate::columns;
 use crate::rooms;
+use crate::sizes;
+use crate::sizes::FitRoom;
 use crate::systems;
 use answers::Number;
 use answers::Refusal;
@@ -104,8 +105,7 @@ fn lengths_fit(
     out.len() == count
 }
 
-// A fit whose settings pass: `grid` has as many cells as `rows` says. Turned down for 8 where the matrix is too large, then for 9, with the tables left as
-// they were.
+// A fit whose settings pass, with as many rows and columns as they say. Turned down for 9, with the tables left as they were.
 fn fit_box(
     weights: &[u64],
     targets: &[u64],
@@ -113,6 +113,7 @@ fn fit_box(
     grid: &[u8],
     most: u8,
     rows: usize,
+    cols: usize,
     size: usize,
     bitwidth: u32,
     matrix: &mut [u64],
@@ -120,20 +121,24 @@ fn fit_box(
     out: &mut [u64],
 ) -> Number
     requires { ⌜ Shaped bitwidth size (now degrees) (now grid) ⌝ }
-    requires { ⌜ (rows ≡ cells (now grid)) × (rows ≤ 65536) × (cells (now degrees) ≤ rows) ⌝ }
+    requires { ⌜ (rows ≡ cells (now grid)) × (rows ≤ 65536) × (cells (now degrees) ≤ rows) × (cols ≡ length (columns (now degrees) most)) × (rows * cols ≤ 65536) ⌝ }
     ensures { λ r. ⌜ Fitted (fitWith bitwidth (now (degrees .entry)) (now (grid .entry)) most (now (weights .entry)) (now (targets .entry))
         (now (matrix .entry)) (now (right .entry)) (now (out .entry)))
-        (tableCause (fitWith bitwidth (now (degrees .entry)) (now (grid .entry)) most (now (weights .entry)) (now (targets .entry))
+        (lengthsCause (fitWith bitwidth (now (degrees .entry)) (now (grid .entry)) most (now (weights .entry)) (now (targets .entry))
         (now (matrix .entry)) (now (right .entry)) (now (out .entry))))
         (now (matrix .exit)) (now (right .exit)) (now (out .exit)) (said r) ⌝ }
 {
-    let cols = columns::count_columns(degrees, most as usize);
-    let entries = rows * cols;
-    if 65536 < entries {
-        return Number::Refused(Refusal::TooLarge);
-    }
     let count = settings::count_cells(degrees, settings::TABLE_LIMIT) as usize;
-    if !lengths_fit(weights, targets, matrix, right, out, rows, entries, count) {
+    if !lengths_fit(
+        weights,
+        targets,
+        matrix,
+        right,
+        out,
+        rows,
+        rows * cols,
+        count,
+    ) {
         return Number::Refused(Refusal::WrongLength);
     }
     rooms::fit_tables(
@@ -167,9 +172,13 @@ fn weighted_fit(
     ensures { λ r. ⌜ Called (fitOf total bitwidth (now (support .entry)) «max_degree» «grid_degree» (now (weights .entry)) (now (targets .entry))
         (now (matrix .entry)) (now (right .entry)) (now (out .entry))) (now (matrix .exit)) (now (right .exit)) (now (out .exit)) (said r) ⌝ }
 {
-    match settings::check(false, support, total, bitwidth, grid_degree) {
-        Number::Refused(refusal) => Number::Refused(refusal),
-        Number::Value(rows) => {
+    match sizes::fit_room(support, total, bitwidth, max_degree, grid_degree) {
+        FitRoom::Refused(refusal) => Number::Refused(refusal),
+        FitRoom::Counts {
+            rows,
+            columns,
+            entries,
+        } => {
             let degree = lesser_degree(max_degree, grid_degree);
             let degrees = [degree; 20];
             let grid = [grid_degree; 20];
@@ -180,6 +189,7 @@ fn weighted_fit(
                 &grid[..support.len()],
                 max_degree,
                 rows as usize,
+                columns as usize,
                 degree as usize + 1,
                 bitwidth,
                 matrix,

@@ -1,6 +1,6 @@
--- The settings of the grid decide first; where they pass there are at most twenty variables, and the degrees are parts of twenty copies.
+-- The settings decide first, with the room; where they pass there are at most twenty variables, and the degrees are parts of twenty copies.
 use borrow.Author.Needs.{needs}
-use mathlib.Core.Path.{sym, ap, subst, _∙_}
+use mathlib.Core.Path.{_≡_, sym, ap, ap₂, subst, _∙_}
 use mathlib.Core.Bool.{false}
 use mathlib.Core.List.{List}
 use Prim.Native.Nat.{ℕ, _+_, _*_, _≤_, _<_}
@@ -10,27 +10,29 @@ use lib.ListN.{length, take, replicate}
 use lib.Seq.{length-take-le}
 use Rattle.meaning.specs.Tables.{at}
 use Rattle.meaning.specs.Boxes.{cells}
-use Rattle.meaning.specs.Settings.{tableLimit, widthFits, cube}
-use Rattle.meaning.specs.Calls.{settingsReply}
-use Rattle.meaning.specs.Fit.{Fit, fitOf}
+use Rattle.meaning.specs.Settings.{tableLimit, widthFits, cube, settingsNumber}
+use Rattle.meaning.specs.Fit.{Fit, columns, fitOf, fitRows, fitColumns, fitSettingsNumber}
+use Rattle.meaning.specs.Counts.{fitRoom}
+use Rattle.answers.specs.Said.{code}
 use Rattle.theory.specs.Ranges.{width-high}
 use Rattle.settings.specs.Causes.{Passes, passes, settings-cells-le, take-cube}
 use Rattle.theory.specs.FitSizes.{cells-cube-le}
-use Rattle.settings.specs.Settled.{Settled, Unsettled, settled, unsettled}
 use Rattle.weighted_poly_fit.specs.Fitting.{Shaped}
+use Rattle.weighted_poly_fit.specs.Sizes.{fitRoomSaid}
 use Rattle.weighted_poly_fit.proofs.FitCalls.{cube-low, call-settled, call-turned, fitted-degrees}
 use Rattle.weighted_poly_fit.proofs.RoomLaws.{powers-few}
+use Rattle.weighted_poly_fit.proofs.SizeLaws.{Told, told-turned, told-counts, size-parts}
 use Rattle.weighted_poly_fit.proofs.fit.weighted_fit.Statement.{statement}
 use Rattle.weighted_poly_fit.proofs.fit.weighted_fit.Tie as tie
 
 -- the start, the settings that pass or do not, the smaller degree, and the call of `fit_box`
-abbrev start : tie.After-check → tie.Start
+abbrev start : tie.After-fit-room → tie.Start
 start c = c .before .before .before .before .before .before .before
 
-abbrev answered : tie.After-rows → tie.After-check
+abbrev answered : tie.After-rows → tie.After-fit-room
 answered c = c .before .before
 
-abbrev declined : tie.After-refusal → tie.After-check
+abbrev declined : tie.After-refusal → tie.After-fit-room
 declined c = c .before .before
 
 abbrev lesser : tie.After-fit-box-arg3 → tie.After-lesser-degree
@@ -42,47 +44,30 @@ passed c = c .before .before
 abbrev called : tie.After-slice-known6 → tie.After-fit-box
 called c = c .before .before .before .before .before .before
 
--- the fit that is asked for, and the degrees of its grid
+-- the fit that is asked for
 abbrev asked : tie.Start → Fit
 asked s =
     let k = s .args in
     fitOf (k .total) (k .bitwidth) (k .support .now) (k .max-degree) (k .grid-degree) (k .weights .now) (k .targets .now)
     (k .matrix .now) (k .right .now) (k .out .now)
 
-abbrev grid : tie.Start → List ℕ
-grid s = cube (s .args .support .now) (s .args .grid-degree)
+-- the settings pass, with as many rows and columns as they say
+module _ (c : tie.After-rows) where
+  abbrev fit : Fit
+  fit = asked (start (answered c))
 
--- the settings pass, with as many cells as they say
-ok : (c : tie.After-rows) →
-    let s = start (answered c) in let k = s .args in
-    Settled false (k .total) (widthFits (k .bitwidth)) (k .support .now) (grid s) (c .rows .given .0 .0)
-unfolding settingsReply
-ok c =
-    let s = start (answered c) in
-    let k = s .args in
-    settled false (k .total) (widthFits (k .bitwidth)) (k .support .now) (grid s) (answered c .check .ensures) (c .rows .given .1)
+  ok : Told fit (c .rows .given .0 .0) (c .rows .given .0 .1 .0) (c .rows .given .0 .1 .1 .0)
+  unfolding fitRoom
+  ok = told-counts fit (sym (ap fitRoomSaid (c .rows .given .1)) ∙ answered c .fit-room .ensures .0)
 
-pass : (c : tie.After-rows) → let k = start (answered c) .args in Passes (k .total) (widthFits (k .bitwidth)) (k .support .now)
-pass c =
-    let s = start (answered c) in
-    let k = s .args in
-    passes tableLimit false (k .total) (widthFits (k .bitwidth)) (k .support .now) (grid s) (ok c .passes)
+  parts : (settingsNumber false (fit .variables) (widthFits (fit .width)) (fit .support) (fit .grid) ≡ 0) × (fitRows fit * length (fitColumns fit) ≤ 65536)
+  parts = size-parts fit (ok .passes)
 
-grid-small : (c : tie.After-rows) → cells (grid (start (answered c))) ≤ 65536
-grid-small c =
-    let s = start (answered c) in
-    let k = s .args in
-    settings-cells-le tableLimit false (k .total) (widthFits (k .bitwidth)) (k .support .now) (grid s) (ok c .passes)
+  pass : Passes (fit .variables) (widthFits (fit .width)) (fit .support)
+  pass = passes tableLimit false (fit .variables) (widthFits (fit .width)) (fit .support) (fit .grid) (parts .0)
 
--- the settings are turned down
-turned : (c : tie.After-refusal) →
-    let s = start (declined c) in let k = s .args in
-    Unsettled false (k .total) (widthFits (k .bitwidth)) (k .support .now) (grid s) (c .refusal .given .0 .0)
-unfolding settingsReply
-turned c =
-    let s = start (declined c) in
-    let k = s .args in
-    unsettled false (k .total) (widthFits (k .bitwidth)) (k .support .now) (grid s) (declined c .check .ensures) (c .refusal .given .1)
+  grid-small : cells (fit .grid) ≤ 65536
+  grid-small = settings-cells-le tableLimit false (fit .variables) (widthFits (fit .width)) (fit .support) (fit .grid) (parts .0)
 
 -- the shape of what is asked of `fit_box`
 shaped : (c : tie.After-lesser-degree) →
@@ -108,6 +93,12 @@ shaped c =
       below = λ j h. subst (λ (ds : List ℕ). at ds j < d + 1) (sym (take-cube (k .support .now) d (p .short))) (cube-low n d j);
     }
 
+-- they are turned down
+turned : (c : tie.After-refusal) → fitSettingsNumber (asked (start (declined c))) ≡ code (c .refusal .given .0 .0)
+unfolding fitRoom
+turned c =
+    told-turned (asked (start (declined c))) (c .refusal .given .0 .0) (sym (ap fitRoomSaid (c .refusal .given .1)) ∙ declined c .fit-room .ensures .0)
+
 pub weighted-fit-spec : {M : Type 1} → statement M
 weighted-fit-spec =
     tie.close
@@ -132,13 +123,15 @@ weighted-fit-spec =
     let t = take-cube support (l .lesser-degree .result) (p .short) in (
       shaped l,
       (
-        r .counted ∙ ap cells (sym (take-cube support (k .grid-degree) (p .short))),
-        le-trans (le-of-eq (r .counted)) (grid-small b),
+        r .row-count ∙ ap cells (sym (take-cube support (k .grid-degree) (p .short))),
+        le-trans (le-of-eq (r .row-count)) (grid-small b),
         le-trans (le-of-eq (ap cells t ∙ ap (λ (i : ℕ). cells (replicate (length support) i)) (l .lesser-degree .ensures)))
-            (le-trans (cells-cube-le (length support) (k .max-degree) (k .grid-degree)) (le-of-eq (sym (r .counted)))),
+            (le-trans (cells-cube-le (length support) (k .max-degree) (k .grid-degree)) (le-of-eq (sym (r .row-count)))),
+        r .column-count ∙ ap (λ (ds : List ℕ). length (columns ds (k .max-degree))) (sym (t ∙ ap (cube support) (l .lesser-degree .ensures))),
+        le-trans (le-of-eq (ap₂ _*_ (r .row-count) (r .column-count))) (parts b .1),
       ),
     ))
-    (λ c. let b = c .before in call-turned (asked (start (declined b))) (b .refusal .given .0 .0) (turned b .refuses))
+    (λ c. let b = c .before in call-turned (asked (start (declined b))) (b .refusal .given .0 .0) (turned b))
     (λ c. search needs) (λ c. search needs) (λ c. search needs)
     (λ c.
     let f = called c in
