@@ -1,12 +1,18 @@
-"""The script ./bench: reading and writing that fail, arguments, the terminal, small stacks, and its builds, with a stand-in for the toolchain."""
+"""The script ./bench: reading and writing that fail, inputs that do not end, arguments, the terminal, small stacks, and its builds, with a stand-in for
+the toolchain."""
 import os
 import pty
 import shutil
+import signal
 import subprocess
 import tempfile
 import time
 
+from reference import line_text
 from runner import CASE, PROGRAM, ROOT, content, count
+
+# bytes of lines 1 and 2 with as many numbers as they can have, and of 4,096 values
+LONGEST_FILE = len(line_text(range(4)) + line_text(range(20)) + line_text([0]) * 4096)
 
 STUB_RT = """#!/bin/sh
 echo build >> "$(dirname "$0")/builds"
@@ -37,6 +43,63 @@ def failures(runner):
     count(runner, 'a pipe that nobody reads', done.returncode == 141)
     done = subprocess.run(['bash', '-c', 'cd / && "$0" <"$1"', script, CASE], stdout=subprocess.PIPE)
     count(runner, 'from another folder', done.returncode == 0 and done.stdout == content(CASE[:-3] + '.out'))
+
+
+def writer_and_answer(command):
+    """What ./bench answers to a program that writes into it: that program's exit status, its own, and what is printed; None where it does not answer."""
+    writer = subprocess.Popen(command, stdout=subprocess.PIPE)
+    process = subprocess.Popen([os.path.join(ROOT, 'bench')], stdin=writer.stdout, stdout=subprocess.PIPE)
+    writer.stdout.close()
+    try:
+        printed, _ = process.communicate(timeout=20)
+    except subprocess.TimeoutExpired:
+        writer.kill()
+        process.communicate()
+        return None
+    return writer.wait(), process.returncode, printed
+
+
+class Slow:
+    """The program, on an input whose end does not come by itself."""
+
+    def __init__(self):
+        self.process = subprocess.Popen([PROGRAM], stdin=subprocess.PIPE, stdout=subprocess.PIPE, bufsize=0)
+
+    def takes(self, data):
+        try:
+            self.process.stdin.write(data)
+        except BrokenPipeError:
+            return False
+        return True
+
+    def ends(self, seconds):
+        try:
+            self.process.wait(seconds)
+        except subprocess.TimeoutExpired:
+            return False
+        return True
+
+    def answer(self):
+        """What it prints once its input is closed, where it succeeds."""
+        self.process.stdin.close()
+        printed = self.process.stdout.read()
+        return printed if self.process.wait() == 0 else None
+
+
+def endless(runner):
+    """Inputs that do not end. Where the first two lines are ill-formed the answer comes after the bytes of the longest file, and not before; a program
+    that writes no more than these is not cut off. Where they are well-formed no answer comes before the end."""
+    ill = line_text([12])
+    count(runner, 'yes', writer_and_answer(['yes']) == (-signal.SIGPIPE, 0, ill))
+    count(runner, 'as many bytes as the longest file', writer_and_answer(['head', '-c', str(LONGEST_FILE), '/dev/zero']) == (0, 0, ill))
+    good = line_text([8, 1, 2, 1]) + line_text([0])
+    for name, head in (('first', b'x'), ('second', line_text([8, 1, 2, 1]) + line_text([0, 0]))):
+        slow = Slow()
+        taken = slow.takes((head + good * 2000)[:LONGEST_FILE - 1]) and not slow.ends(0.5) and slow.takes(b'\n')
+        count(runner, 'an ill-formed %s line, and no end' % name, taken and slow.ends(20) and slow.answer() == ill)
+    slow = Slow()
+    taken = slow.takes(good + line_text([1]) * 10000) and not slow.ends(0.5)
+    count(runner, 'values without an end', taken and slow.answer() == line_text([9]))
 
 
 class Checkout:
@@ -127,5 +190,6 @@ def arguments(runner):
 
 def try_all(runner):
     failures(runner)
+    endless(runner)
     arguments(runner)
     builds(runner)

@@ -3,12 +3,12 @@ use mathlib.Core.Path.{_≡_, refl, sym, _∙_, ap, ap₂}
 use mathlib.Core.Bool.{Bool, true, false, _&&_, cond}
 use mathlib.Core.List.{List, [], _++_}
 use mathlib.Core.Logic.{⊎-elim}
-use Prim.Native.Nat.{ℕ, zero, suc, _+_, _≤_, _<_, min}
+use Prim.Native.Nat.{ℕ, zero, suc, _+_, _-_, _≤_, _<_, min}
 use native.Mathlib.Nat.{suc-ne-zero}
 use native.Mathlib.Omega.{arith}
 use borrow.Author.Tests.{eq-eqb, ne-eqb}
 use lib.Dec.{eqb}
-use lib.ListN.{length, take, drop}
+use lib.ListN.{length, take, drop, length-append}
 use lib.Seq.{sets, sets-eq, take-at, length-take-le}
 use Rattle.meaning.specs.Tables.{tabulate}
 use Rattle.meaning.specs.Boxes.{cells}
@@ -19,7 +19,7 @@ use Rattle.meaning.specs.Calls.{reply, left, inOutNumber, recoveryNumber, recov
 use Rattle.theory.specs.AcceptedCalls.{number-reply}
 use Rattle.settings.specs.Causes.{passes, passes-higher, settings-cells-le}
 use Rattle.theory.specs.Ranges.{width-high}
-use Rattle.bench_file.specs.Layout.{Head, ill-head, ill-values, whole, degreesOf, headNumber, benchNumber, acceptedText, refusedText, benchText}
+use Rattle.bench_file.specs.Layout.{Head, longestFile, ill-head, ill-values, whole, degreesOf, headNumber, benchNumber, acceptedText, refusedText, benchText}
 use Rattle.bench_file.specs.Verdict.{verdict, narrowed}
 use Rattle.bench_file.specs.VerdictLaws.{narrowed-width, narrowed-total}
 use Rattle.bench_file.specs.declared.reader.Reading.{Reading}
@@ -250,13 +250,15 @@ module _ (h : Head) (t : List ℕ) where
 
 -- ---- pieces of the input
 
-pub led-none : (t : List ℕ) (r : Reader) → r ≡ noneRead → Led t r t
+pub led-none : (t : List ℕ) (r : Reader) → r ≡ noneRead → Led t r t longestFile
 unfolding fed
-led-none t r e = record { bytes = []; led = ap (λ (x : Reader). state x t) e }
+led-none t r e = record { bytes = []; led = ap (λ (x : Reader). state x t) e; unread = refl }
 
-pub led-next : (t₀ : List ℕ) (r : Reader) (t piece : List ℕ) (q : Reader) (u : List ℕ) → Led t₀ r t → state q u ≡ fed (state r t) piece → Led t₀ q u
-led-next t₀ r t piece q u l e =
+pub led-next : (t₀ : List ℕ) (r : Reader) (t : List ℕ) (left : ℕ) (piece : List ℕ) (q : Reader) (u : List ℕ) (left′ : ℕ) → Led t₀ r t left
+    → state q u ≡ fed (state r t) piece → left′ ≡ left - length piece → Led t₀ q u left′
+led-next t₀ r t left piece q u left′ l e f =
     record {
       bytes = l .bytes ++ piece;
       led = e ∙ ap (λ (s : State). fed s piece) (l .led) ∙ sym (fed-append (state noneRead t₀) (l .bytes) piece);
+      unread = omega (arith, f, l .unread, length-append (l .bytes) piece);
     }

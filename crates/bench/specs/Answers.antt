@@ -1,15 +1,15 @@
 -- What the program prints, from the parts that the reader hands over.
 use mathlib.Core.Path.{_≡_}
-use Prim.Native.Nat.{ℕ}
+use Prim.Native.Nat.{ℕ, _-_}
 use mathlib.Core.Bool.{Bool, cond}
 use mathlib.Core.List.{List}
 use lib.Dec.{eqb}
-use lib.ListN.{take, drop, replicate}
+use lib.ListN.{length, take, drop, replicate}
 use Rattle.meaning.specs.Tables.{at}
 use Rattle.meaning.specs.Boxes.{cells}
 use Rattle.meaning.specs.Recovery.{accepts, answer}
 use Rattle.meaning.specs.Calls.{recoveryNumber, recoveryLeft}
-use Rattle.bench_file.specs.Layout.{Head, Content, Says, degreesOf, headNumber, acceptedText, refusedText, benchText}
+use Rattle.bench_file.specs.Layout.{Head, longestFile, Content, Says, degreesOf, headNumber, acceptedText, refusedText, benchText}
 use Rattle.bench_file.specs.Steps.{state, noneRead, fed}
 use Rattle.bench_file.specs.Printed.{printed, printedSize}
 use Rattle.bench_file.specs.Verdict.{verdict, narrowed, lowered}
@@ -49,10 +49,11 @@ textOf x h count t = textFor (numberOf x h count t) (degreesOf h) (answer (h .wi
 abbrev pub FedBy : Reader → List ℕ → List ℕ → Type 0
 FedBy r t bs = state r t ≡ fed (state noneRead (replicate 4096 0)) bs
 
--- some bytes lead the reader from its beginning, with the table t₀, to the reader r and the table t
-pub record Led (t₀ : List ℕ) (r : Reader) (t : List ℕ) : Type 0 where
+-- some bytes lead the reader from its beginning, with the table t₀, to the reader r and the table t; `left` of the longest file's bytes are not read yet
+pub record Led (t₀ : List ℕ) (r : Reader) (t : List ℕ) (left : ℕ) : Type 0 where
   pub bytes : List ℕ
   pub led : state r t ≡ fed (state noneRead t₀) bytes
+  pub unread : left ≡ longestFile - length bytes
 
 -- what is printed of the bytes that lead here is what the layout says of them: how many bytes of the buffer `out` it takes
 abbrev pub SaysText : Reader → List ℕ → List ℕ → Written → Type 0

@@ -1,4 +1,4 @@
-// The answer to an input that was read to its end: settings, then recovery, then the text.
+// The answer to what was read: settings, then recovery, then the text.
 ghost use mathlib.Core.Path.{_≡_};
 ghost use Prim.Native.Nat.{_≤_, min};
 ghost use lib.ListN.{length, replicate};

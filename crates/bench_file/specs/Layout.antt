@@ -1,6 +1,6 @@
 -- The layout of a bench file, what a file says, and what the bench program answers to it.
 use mathlib.Core.Path.{_≡_}
-use Prim.Native.Nat.{ℕ, zero, suc, _^_, _<_, _≤_}
+use Prim.Native.Nat.{ℕ, zero, suc, _+_, _*_, _^_, _<_, _≤_}
 use mathlib.Core.Bool.{true, cond}
 use mathlib.Core.List.{List, [], _∷_, _++_}
 use lib.Dec.{eqb}
@@ -40,6 +40,10 @@ unfoldable pub valuesText : List ℕ → List ℕ
 unfolding line
 valuesText [] = []
 valuesText (v ∷ vs) = line (v ∷ []) ++ valuesText vs
+
+-- no file with at most 4,096 values has more bytes (PrintLaws: `length-file`): two lines of 4 and of 20 numbers, then a line for each value
+abbrev pub longestFile : ℕ
+longestFile = (21 * 4 + 1) + (21 * 20 + 1) + 4096 * 22
 
 -- what a file can say
 pub data Content : Type 0 where

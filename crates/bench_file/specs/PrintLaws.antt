@@ -15,7 +15,7 @@ use Rattle.meaning.specs.Tables.{at}
 use Rattle.meaning.specs.Boxes.{digits}
 use Rattle.bench_file.specs.Text.{number, numbers, line}
 use Rattle.bench_file.specs.NumberLaws.{length-number}
-use Rattle.bench_file.specs.Layout.{nonZeros, termLines, acceptedText, refusedText}
+use Rattle.bench_file.specs.Layout.{Head, GoodHead, headText, valuesText, longestFile, nonZeros, termLines, acceptedText, refusedText}
 use Rattle.bench_file.specs.Printed.{termText, oneTerm}
 
 -- two texts one after the other
@@ -70,6 +70,19 @@ length-accepted ds cs =
 pub length-refused : (n : ℕ) → length (refusedText n) ≡ 22
 unfolding refusedText
 length-refused n = length-line (n ∷ [])
+
+-- the text of a file
+length-values : (vs : List ℕ) → length (valuesText vs) ≡ length vs * 22
+unfolding valuesText
+length-values [] = refl
+length-values (v ∷ vs) = length-append (line (v ∷ [])) (valuesText vs) ∙ omega (arith, length-line (v ∷ []), length-values vs)
+
+pub length-file : (h : Head) (vs : List ℕ) → GoodHead h → length vs ≤ 4096 → length (headText h ++ valuesText vs) ≤ longestFile
+unfolding headText
+length-file h vs good few =
+    let ns = h .width ∷ h .total ∷ h .degree ∷ length (h .support) ∷ [] in
+    let all = length-append (line ns ++ line (h .support)) (valuesText vs) in
+    omega (arith, all, length-append (line ns) (line (h .support)), length-line ns, length-line (h .support), length-values vs, good .few, few)
 
 -- one exponent more
 pub digits-next : (d k n : ℕ) → numbers (digits (replicate (suc k) d) n) ≡ number (n % suc d) ++ numbers (digits (replicate k d) (n / suc d))

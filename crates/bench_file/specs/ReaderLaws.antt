@@ -1,4 +1,4 @@
--- What the reader finds of a whole input is what its bytes say: `read-as` and `read-only`.
+-- What the reader finds of a whole input is what its bytes say: `read-as`; first lines that it has found ill-formed are so whatever follows: `ill-head-stays`.
 -- A text of the layout leads the reader to what it says (the runs), and what the reader holds is the text of the bytes that it was fed (its standing);
 -- where it found an ill-formed line no text of the layout can have been fed, since such a text would have led elsewhere.
 use mathlib.Core.Path.{_≡_, refl, sym, _∙_, ap, ap₂, subst}
@@ -13,9 +13,9 @@ use lib.Seq.{sets, set-out}
 use borrow.Author.Tests.{eq-eqb, ne-eqb, lt-ltb, le-ltb}
 use Rattle.bench_file.specs.Text.{columns, number}
 use Rattle.bench_file.specs.Columns.{withDigit, withColumn}
-use Rattle.bench_file.specs.Layout.{Head, Words, GoodHead, headText, valuesText, says-ill-head, says-ill-values, says-whole}
+use Rattle.bench_file.specs.Layout.{Head, Words, GoodHead, headText, valuesText, ill-head, Says, says-ill-head, says-ill-values, says-whole}
 use Rattle.bench_file.specs.Steps.{reader, noneRead, valueByte, State, state, step, fed, headOf, readingAt, readingOf}
-use Rattle.bench_file.specs.StepLaws.{step-value, step-line-end, step-ill-values, value-opens, value-opens-ill, value-closes, value-closes-ill, line-end-ill, line-end-stores, fed-append}
+use Rattle.bench_file.specs.StepLaws.{step-value, step-line-end, step-ill-values, value-opens, value-opens-ill, value-closes, value-closes-ill, line-end-ill, line-end-stores, fed-append, fed-ill-head}
 use Rattle.bench_file.specs.Runs.{countedAll, storedAll, headRead, fed-head, fed-values}
 use Rattle.bench_file.specs.HeadLines.{lt-or-ge, eq-or-ne}
 use Rattle.bench_file.specs.ValueLines.{InValues}
@@ -209,3 +209,11 @@ module _ (t₀ bs : List ℕ) where
       go Stage.LineEnd e s = values-of (number (end .reader .shown)) s (reading-line-end (end .reader) e)
       go Stage.IllHead e s = ill-head-of (ap past e) (reading-ill-head (end .reader) e)
       go Stage.IllValues e s = ill-values-of (s .rest) (s .good) (s .text) (reading-ill-values (end .reader) e)
+
+-- where the reader has found the first two lines ill-formed, the bytes say so whatever follows them
+module _ (t₀ bs : List ℕ) (ill : fed (state noneRead t₀) bs .reader .stage ≡ Stage.IllHead) (more : List ℕ) where
+  pub fed-more : fed (state noneRead t₀) (bs ++ more) ≡ fed (state noneRead t₀) bs
+  fed-more = fed-append (state noneRead t₀) bs more ∙ fed-ill-head (end t₀ bs .reader) (end t₀ bs .values) more ill
+
+  pub ill-head-stays : Says (bs ++ more) ill-head
+  ill-head-stays = says-ill-head (no-head t₀ (bs ++ more) (ap (λ (s : State). past (s .reader .stage)) fed-more ∙ ap past ill))

@@ -1,5 +1,5 @@
 -- What one byte makes of a reader, case by case.
-use mathlib.Core.Path.{_≡_, refl, sym, ap}
+use mathlib.Core.Path.{_≡_, refl, sym, _∙_, ap}
 use mathlib.Core.List.{List, [], _∷_, _++_}
 use Prim.Native.Nat.{ℕ, suc, _+_, _≤_, _<_}
 use borrow.Author.Tests.{lt-ltb, le-ltb, le-leb, lt-leb, eq-eqb, ne-eqb}
@@ -166,3 +166,9 @@ fed-next s s′ bs i h e = rw (add-one i, drop-cons bs i 0 h) (ap (λ (x : State
 pub fed-end : (s : State) (bs : List ℕ) (i : ℕ) → length bs ≤ i → fed s (drop i bs) ≡ s
 unfolding fed
 fed-end s bs i h = rw (drop-of-length-le bs h)
+
+-- first lines that are ill-formed stay so: no further byte changes anything
+pub fed-ill-head : (r : Reader) (t bs : List ℕ) → r .stage ≡ Stage.IllHead → fed (state r t) bs ≡ state r t
+unfolding fed
+fed-ill-head r t [] e = refl
+fed-ill-head r t (b ∷ bs) e = ap (λ (s : State). fed s bs) (step-ill-head r t b e) ∙ fed-ill-head r t bs e

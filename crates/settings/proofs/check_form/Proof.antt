@@ -9,22 +9,26 @@ use Rattle.meaning.specs.Calls.{settingsReply}
 use Rattle.settings.proofs.check_form.Statement.{statement}
 use Rattle.settings.proofs.check_form.Tie as tie
 
+-- the call, from behind the check of the settings
+abbrev start : tie.After-check → tie.Start
+start c = c .before .before .before
+
 -- the settings pass, with as many cells as they say
 ok : (c : tie.After-count) →
-    let k = c .before .before .before .before .before .args in
+    let k = start (c .before .before) .args in
     Settled false (k .total) (widthFits (k .bitwidth)) (k .support .now) (cube (k .support .now) (k .max-degree)) (c .count .given .0 .0)
 unfolding settingsReply
 ok c =
-    let k = c .before .before .before .before .before .args in
+    let k = start (c .before .before) .args in
     settled false (k .total) (widthFits (k .bitwidth)) (k .support .now) (cube (k .support .now) (k .max-degree)) (c .before .before .check .ensures) (c .count .given .1)
 
 -- the settings are turned down
 turned : (c : tie.After-refusal) →
-    let k = c .before .before .before .before .before .args in
+    let k = start (c .before .before) .args in
     Unsettled false (k .total) (widthFits (k .bitwidth)) (k .support .now) (cube (k .support .now) (k .max-degree)) (c .refusal .given .0 .0)
 unfolding settingsReply
 turned c =
-    let k = c .before .before .before .before .before .args in
+    let k = start (c .before .before) .args in
     unsettled false (k .total) (widthFits (k .bitwidth)) (k .support .now) (cube (k .support .now) (k .max-degree)) (c .before .before .check .ensures) (c .refusal .given .1)
 
 pub check-form-spec : {M : Type 1} → statement M

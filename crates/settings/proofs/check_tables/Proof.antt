@@ -18,22 +18,26 @@ enum-known-refusal c = search needs
 enum-known-count : tie.Need-enum-known-count
 enum-known-count c = search needs
 
+-- the call, from behind the check of the settings
+abbrev start : tie.After-check → tie.Start
+start c = c .before .before .before .before
+
 -- the settings pass, with as many cells as they say
 ok : (c : tie.After-count) →
-    let k = c .before .before .before .before .before .before .args in
+    let k = start (c .before .before) .args in
     Settled (k .strict) (k .total) (widthFits (k .bitwidth)) (k .support .now) (cube (k .support .now) (k .max-degree)) (c .count .given .0 .0)
 unfolding settingsReply
 ok c =
-    let k = c .before .before .before .before .before .before .args in
+    let k = start (c .before .before) .args in
     settled (k .strict) (k .total) (widthFits (k .bitwidth)) (k .support .now) (cube (k .support .now) (k .max-degree)) (c .before .before .check .ensures) (c .count .given .1)
 
 -- the settings are turned down
 turned : (c : tie.After-refusal) →
-    let k = c .before .before .before .before .before .before .args in
+    let k = start (c .before .before) .args in
     Unsettled (k .strict) (k .total) (widthFits (k .bitwidth)) (k .support .now) (cube (k .support .now) (k .max-degree)) (c .refusal .given .0 .0)
 unfolding settingsReply
 turned c =
-    let k = c .before .before .before .before .before .before .args in
+    let k = start (c .before .before) .args in
     unsettled (k .strict) (k .total) (widthFits (k .bitwidth)) (k .support .now) (cube (k .support .now) (k .max-degree)) (c .before .before .check .ensures) (c .refusal .given .1)
 
 returns : tie.Need-returns
