@@ -2,10 +2,11 @@
 ghost use mathlib.Core.Path.{_≡_};
 ghost use Prim.Native.Nat.{_^_};
 ghost use mathlib.Core.Bool.{false};
-ghost use Rattle.meaning.specs.Settings.{cube};
+ghost use mathlib.Core.List.{[], _∷_};
+ghost use Rattle.meaning.specs.Settings.{cube, widthFits};
 ghost use Rattle.meaning.specs.Calls.{inOutNumber, convertLeft};
 ghost use Rattle.meaning.specs.Conversions.{fallingBox, powerBox};
-ghost use Rattle.demand3.specs.Settings.{ConvertPasses};
+ghost use Rattle.demand3.specs.Settings.{CallPasses};
 ghost use Rattle.demand3.specs.Promises.{ToFalling, ToPowers};
 ghost use Rattle.answers.specs.Said.{saidNumber};
 ghost use Rattle.lines.specs.Transforms.{boxOf};
@@ -57,8 +58,8 @@ pub fn to_factorial_basis(
     ensures leaves { λ r. ⌜ now (out .exit) ≡ convertLeft total bitwidth (now (support .entry)) (cube (now (support .entry)) «max_degree»)
         (now (coeffs .entry)) (now (out .entry))
         (fallingBox (2 ^ bitwidth) (cube (now (support .entry)) «max_degree») (now (coeffs .entry))) ⌝ }
-    ensures converts { λ r. ⌜ ToFalling (ConvertPasses total bitwidth (now (support .entry)) (cube (now (support .entry)) «max_degree»)
-        (now (coeffs .entry)) (now (out .entry)))
+    ensures converts { λ r. ⌜ ToFalling (CallPasses 65536 false total (widthFits bitwidth) (now (support .entry)) (cube (now (support .entry)) «max_degree»)
+        (λ n. (now (coeffs .entry), n) ∷ (now (out .entry), n) ∷ []))
         bitwidth (cube (now (support .entry)) «max_degree») (now (coeffs .entry)) (saidNumber r) (now (out .exit)) ⌝ }
 {
     transform_basis(
@@ -86,8 +87,8 @@ pub fn to_monomial_basis(
     ensures leaves { λ r. ⌜ now (out .exit) ≡ convertLeft total bitwidth (now (support .entry)) (cube (now (support .entry)) «max_degree»)
         (now (coeffs .entry)) (now (out .entry))
         (powerBox (2 ^ bitwidth) (cube (now (support .entry)) «max_degree») (now (coeffs .entry))) ⌝ }
-    ensures converts { λ r. ⌜ ToPowers (ConvertPasses total bitwidth (now (support .entry)) (cube (now (support .entry)) «max_degree»)
-        (now (coeffs .entry)) (now (out .entry)))
+    ensures converts { λ r. ⌜ ToPowers (CallPasses 65536 false total (widthFits bitwidth) (now (support .entry)) (cube (now (support .entry)) «max_degree»)
+        (λ n. (now (coeffs .entry), n) ∷ (now (out .entry), n) ∷ []))
         bitwidth (cube (now (support .entry)) «max_degree») (now (coeffs .entry)) (saidNumber r) (now (out .exit)) ⌝ }
 {
     transform_basis(

@@ -1,37 +1,31 @@
 -- What a printed text says of a grid: it is the layout of a number and coefficients that decide as demand 3 says. The number 6 and the number 0 are printed
 -- of a file only where its settings pass, with the limit of 4,096 cells, and there is a value for each grid point.
 use mathlib.Core.Path.{_≡_, refl, sym, ap, _∙_}
-use mathlib.Core.Logic.{_↔_}
 use mathlib.Core.Bool.{Bool, true, false, cond}
 use Prim.Native.Nat.{ℕ, zero, suc}
-use mathlib.Core.List.{List}
-use borrow.Author.Tests.{eqb-true, eq-eqb, ne-eqb}
+use mathlib.Core.List.{List, [], _∷_}
+use borrow.Author.Tests.{eq-eqb, ne-eqb}
 use lib.Dec.{T, eqb}
 use lib.ListN.{length}
 use Rattle.meaning.specs.Tables.{tabulate}
 use Rattle.meaning.specs.Boxes.{cells}
 use Rattle.meaning.specs.Recovery.{accepts, answer}
-use Rattle.meaning.specs.Settings.{widthFits, byteLimit, first}
-use Rattle.demand3.specs.Tests.{suc-zero, cond-true, first-zero, first-not-6, cond-not-6, not-6}
-use Rattle.demand3.specs.Settings.{WidthFits, Sound, NoZero, limited-iff, limited-not-6}
+use Rattle.meaning.specs.Settings.{widthFits, first}
+use Rattle.demand3.specs.Tests.{suc-zero, first-not-6, not-6}
+use Rattle.demand3.specs.Settings.{CallPasses, passing-iff, passing-not-6, settings-not-6}
 use Rattle.demand3.specs.Promises.{Decides}
 use Rattle.demand3.specs.Decided.{decides, accepted-accepts}
 use Rattle.bench_file.specs.Layout.{Head, Content, ill-head, ill-values, whole, degreesOf, headNumber, benchNumber, acceptedText, refusedText, benchText}
 
--- the settings of the first two lines pass, and there is a value for each grid point
-pub record FilePasses (h : Head) (vs : List ℕ) : Type 0 where
-  pub sound : Sound byteLimit (h .total) (h .support) (degreesOf h)
-  pub width : WidthFits (h .width)
-  pub degrees : NoZero (degreesOf h)
-  pub values : length vs ≡ cells (degreesOf h)
-
--- the text of a grid: the coefficients where the number is 0, else the number alone; and number and coefficients decide
+-- the text of a grid: the coefficients where the number is 0, else the number alone; and number and coefficients decide, where the settings of the first two
+-- lines pass and there is a value for each grid point
 pub record GridAnswer (h : Head) (vs text : List ℕ) : Type 0 where
   pub number : ℕ
   pub coefficients : List ℕ
   pub accepted : number ≡ 0 → text ≡ acceptedText (degreesOf h) coefficients
   pub refused : (number ≡ 0 → ⊥) → text ≡ refusedText number
-  pub decision : Decides (FilePasses h vs) (h .width) (degreesOf h) vs number coefficients
+  pub decision : Decides (CallPasses 4096 true (h .total) (widthFits (h .width)) (h .support) (degreesOf h) (λ n. (vs, n) ∷ []))
+      (h .width) (degreesOf h) vs number coefficients
 
 -- the text of a number that says nothing of a grid
 pub record NoAnswer (text : List ℕ) : Type 0 where
@@ -51,39 +45,11 @@ Answering (whole h vs) text = GridAnswer h vs text
 module _ (h : Head) where
   head-not-6 : headNumber h ≡ 6 → ⊥
   unfolding headNumber
-  head-not-6 = limited-not-6 true (h .total) (widthFits (h .width)) (h .support) (degreesOf h) byteLimit
+  head-not-6 = settings-not-6 4096 true (h .total) (widthFits (h .width)) (h .support) (degreesOf h)
 
   -- 9 where there are not as many values as grid points
-  abbrev nineUnless : Bool → ℕ
-  nineUnless b = cond b 0 9
-
   abbrev causeOf : List ℕ → ℕ
-  causeOf vs = first (headNumber h) (nineUnless (eqb (length vs) (cells (degreesOf h))))
-
-  cause-iff : (vs : List ℕ) → (causeOf vs ≡ 0) ↔ FilePasses h vs
-  unfolding headNumber
-  cause-iff vs =
-      let both = first-zero (headNumber h) (nineUnless (eqb (length vs) (cells (degreesOf h)))) in
-      let count = cond-true (eqb (length vs) (cells (degreesOf h))) 8 0 in
-      let small = limited-iff true (h .total) (widthFits (h .width)) (h .support) (degreesOf h) byteLimit in (
-        λ e.
-            let s = small .0 (both .0 e .0) in
-            record {
-              sound = s .0;
-              width = s .1;
-              degrees = s .2 refl;
-              values = eqb-true (length vs) (cells (degreesOf h)) (count .0 (both .0 e .1) .0);
-            },
-        λ f. both .1 (
-          small .1 (f .sound, f .width, λ e. f .degrees),
-          count .1 (eq-eqb (length vs) (cells (degreesOf h)) (f .values), refl),
-        ),
-      )
-
-  cause-not-6 : (vs : List ℕ) → causeOf vs ≡ 6 → ⊥
-  cause-not-6 vs =
-      first-not-6 (headNumber h) (nineUnless (eqb (length vs) (cells (degreesOf h)))) head-not-6
-      (cond-not-6 (eqb (length vs) (cells (degreesOf h))) (not-6 0 tt) (not-6 9 tt))
+  causeOf vs = first (headNumber h) (cond (eqb (length vs) (cells (degreesOf h))) 0 9)
 
 -- the cause of the count, before the verdict or in its place
 regrouped : (a : ℕ) (exact : Bool) (x : ℕ) → first a (cond exact x 9) ≡ first (first a (cond exact 0 9)) x
@@ -102,7 +68,7 @@ module _ (h : Head) (vs : List ℕ) where
   verdict = regrouped (headNumber h) (eqb (length vs) (cells (degreesOf h))) (cond (accepts (h .width) (degreesOf h) vs) 0 6)
 
   grid-answer : GridAnswer h vs (benchText (whole h vs))
-  unfolding benchText
+  unfolding benchText headNumber
   grid-answer =
       record {
         number = benchNumber (whole h vs);
@@ -112,7 +78,10 @@ module _ (h : Head) (vs : List ℕ) where
             ∙ ap (acceptedText (degreesOf h)) (sym (boxed z));
         refused = λ ne.
             ap (λ (b : Bool). cond b (acceptedText (degreesOf h) (answer (h .width) (degreesOf h) vs)) (refusedText (benchNumber (whole h vs)))) (ne-eqb _ _ ne);
-        decision = decides (h .width) (degreesOf h) vs (causeOf h vs) (cause-iff h vs) (cause-not-6 h vs) verdict (λ z. refl);
+        decision =
+            decides (h .width) (degreesOf h) vs (causeOf h vs)
+            (passing-iff 4096 true (h .total) (widthFits (h .width)) (h .support) (degreesOf h) [] (λ n. (vs, n) ∷ []))
+            (passing-not-6 4096 true (h .total) (widthFits (h .width)) (h .support) (degreesOf h) [] (λ n. (vs, n) ∷ [])) verdict (λ z. refl);
       }
     where
       boxed : benchNumber (whole h vs) ≡ 0 → box ≡ answer (h .width) (degreesOf h) vs

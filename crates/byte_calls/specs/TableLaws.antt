@@ -2,7 +2,7 @@
 -- are turned down, a wrong length, and the call on the tables that the bytes hold.
 use mathlib.Core.Path.{_≡_, refl, sym, _∙_, ap, ap₂}
 use mathlib.Core.Bool.{Bool, true, false, _&&_, cond}
-use mathlib.Core.List.{List, _∷_}
+use mathlib.Core.List.{List, [], _∷_}
 use Prim.Native.Nat.{ℕ, zero, suc, _*_, _≤_, _<_, _^_}
 use native.Mathlib.Nat.{lt-irrefl, le-of-suc-le-suc, not-suc-le-zero, suc-ne-zero}
 use native.Mathlib.Omega.{arith}
@@ -26,9 +26,10 @@ use Rattle.answers.specs.Laws.{number-accepted, value-accepted, number-refused,
 use Rattle.settings.specs.Settled.{Settled, settled-number}
 use Rattle.byte_calls.specs.Bytes.{decoded, encoded}
 use Rattle.byte_calls.specs.ByteLaws.{length-decoded}
+use Rattle.demand3.specs.Settings.{CallPasses}
 use Rattle.demand3.specs.Promises.{Decides, Valued}
 use Rattle.demand3.specs.Also.{also, also₂}
-use Rattle.byte_calls.specs.Passing.{RecoverHolds, ValueHolds, bytes-decide, bytes-valued}
+use Rattle.byte_calls.specs.BytePromises.{bytes-decide, bytes-valued}
 use Rattle.byte_calls.specs.Calls.{holds, boxNumber, bytesRecoveryCause, bytesRecoveryNumber, bytesRecoveryLeft, bytesValueReply}
 
 is-true : (b : Bool) (n : ℕ) → _≡_ {A = ℕ} (cond b 0 (suc n)) 0 → b ≡ true
@@ -118,7 +119,8 @@ module _ (count total w : ℕ) (support ds values out : List ℕ) where
   Said n t =
       (n ≡ bytesRecoveryNumber count total w support ds values out)
       × ((t ≡ bytesRecoveryLeft count total w support ds values out)
-      × Decides (RecoverHolds count total w support ds values out) w ds (decoded values) n (decoded t))
+      × Decides (CallPasses 4096 true total (widthFits w) (decoded support) ds (λ n. (support, count * 8) ∷ (values, n * 8) ∷ (out, n * 8) ∷ []))
+      w ds (decoded values) n (decoded t))
 
   promised : {n : ℕ} {t : List ℕ} → (n ≡ bytesRecoveryNumber count total w support ds values out) × (t ≡ bytesRecoveryLeft count total w support ds values out) → Said n t
   promised = also₂ (bytes-decide count total w support ds values out)
@@ -177,7 +179,8 @@ module _ (count total w : ℕ) (support ds coeffs point : List ℕ) where
   abbrev Replied : Reply → Type 0
   Replied r =
       (r ≡ bytesValueReply count total w support ds coeffs point)
-      × Valued (ValueHolds count total w support ds coeffs point) w ds (decoded coeffs) (decoded point) r
+      × Valued (CallPasses 4096 false total (widthFits w) (decoded support) ds (λ n. (support, count * 8) ∷ (coeffs, n * 8) ∷ (point, count * 8) ∷ []))
+      w ds (decoded coeffs) (decoded point) r
 
   told : {r : Reply} → r ≡ bytesValueReply count total w support ds coeffs point → Replied r
   told = also (bytes-valued count total w support ds coeffs point)

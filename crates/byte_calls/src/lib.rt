@@ -1,11 +1,14 @@
 // The database's calls: recovery and value on tables of bytes, eight to an entry, least first, at most 4,096 entries each.
 ghost use mathlib.Core.Path.{_≡_};
-ghost use Rattle.meaning.specs.Settings.{cube};
+ghost use mathlib.Core.Bool.{true, false};
+ghost use Prim.Native.Nat.{_*_};
+ghost use mathlib.Core.List.{[], _∷_};
+ghost use Rattle.meaning.specs.Settings.{cube, widthFits};
+ghost use Rattle.demand3.specs.Settings.{CallPasses};
 ghost use Rattle.demand3.specs.Promises.{Decides, Valued};
 ghost use Rattle.answers.specs.Said.{said, saidNumber};
 ghost use Rattle.byte_calls.specs.Bytes.{decoded, encoded};
 ghost use Rattle.byte_calls.specs.Calls.{bytesRecoveryNumber, bytesRecoveryLeft, bytesValueReply};
-ghost use Rattle.byte_calls.specs.Passing.{RecoverHolds, ValueHolds};
 
 mod checks;
 mod codec;
@@ -34,8 +37,9 @@ pub fn recover(
         (now (values .entry)) (now (out .entry)) ⌝ }
     ensures leaves { λ r. ⌜ now (out .exit) ≡ bytesRecoveryLeft count total width (now (support .entry)) (cube (decoded (now (support .entry))) degree)
         (now (values .entry)) (now (out .entry)) ⌝ }
-    ensures decides { λ r. ⌜ Decides (RecoverHolds count total width (now (support .entry)) (cube (decoded (now (support .entry))) degree)
-        (now (values .entry)) (now (out .entry)))
+    ensures decides { λ r. ⌜ Decides (CallPasses 4096 true total (widthFits width) (decoded (now (support .entry)))
+        (cube (decoded (now (support .entry))) degree)
+        (λ n. (now (support .entry), count * 8) ∷ (now (values .entry), n * 8) ∷ (now (out .entry), n * 8) ∷ []))
         width (cube (decoded (now (support .entry))) degree) (decoded (now (values .entry))) (saidNumber r) (decoded (now (out .exit))) ⌝ }
 {
     match checks::check(true, support, count, total, width, degree) {
@@ -78,8 +82,9 @@ pub fn value(
 ) -> Number
     ensures says { λ r. ⌜ said r ≡ bytesValueReply count total width (now (support .entry)) (cube (decoded (now (support .entry))) degree)
         (now (coeffs .entry)) (now (point .entry)) ⌝ }
-    ensures values { λ r. ⌜ Valued (ValueHolds count total width (now (support .entry)) (cube (decoded (now (support .entry))) degree)
-        (now (coeffs .entry)) (now (point .entry)))
+    ensures values { λ r. ⌜ Valued (CallPasses 4096 false total (widthFits width) (decoded (now (support .entry)))
+        (cube (decoded (now (support .entry))) degree)
+        (λ n. (now (support .entry), count * 8) ∷ (now (coeffs .entry), n * 8) ∷ (now (point .entry), count * 8) ∷ []))
         width (cube (decoded (now (support .entry))) degree) (decoded (now (coeffs .entry))) (decoded (now (point .entry))) (said r) ⌝ }
 {
     match checks::check(false, support, count, total, width, degree) {

@@ -1,9 +1,9 @@
 -- Conversions undo one another, and the bytes that recovery left are a table that can be lent on.
 use mathlib.Core.Path.{_≡_, sym, ap, _∙_}
 use mathlib.Core.Logic.{inl}
-use mathlib.Core.Bool.{false}
+use mathlib.Core.Bool.{true, false}
 use Prim.Native.Nat.{ℕ, _*_, _%_, _^_, _<_}
-use mathlib.Core.List.{List}
+use mathlib.Core.List.{List, [], _∷_}
 use lib.Pow.{pow-pos}
 use lib.IntN.{ℤ}
 use lib.ListN.{length}
@@ -12,14 +12,15 @@ use Rattle.meaning.specs.Boxes.{cells}
 use Rattle.meaning.specs.Polynomials.{Term}
 use Rattle.meaning.specs.Replies.{Reply, accepted}
 use Rattle.meaning.specs.Conversions.{fallingBox, powerBox}
+use Rattle.meaning.specs.Settings.{widthFits}
 use Rattle.meaning.specs.Calls.{left, inOutNumber, convertLeft}
 use Rattle.theory.specs.Tables.{at-tabulate}
 use Rattle.theory.specs.ConversionLaws.{powerBox-fallingBox, fallingBox-powerBox}
 use Rattle.demand3.specs.Words.{polynomialValue, PointOf, Agreeing}
+use Rattle.demand3.specs.Settings.{CallPasses}
 use Rattle.demand3.specs.Promises.{Decides, Valued}
 use Rattle.byte_calls.specs.Bytes.{decoded}
-use Rattle.byte_calls.specs.Passing.{RecoverHolds, ValueHolds}
-use Rattle.calls_together.proofs.Together.{reply-accepted}
+use Rattle.calls_together.proofs.Together.{reply-accepted, passes-with}
 
 -- what an accepted conversion leaves
 module _ (total w : ℕ) (support ds : List ℕ) where
@@ -46,12 +47,15 @@ module _ (total w : ℕ) (support ds : List ℕ) where
         ∙ at-tabulate (cells ds) _ i l
 
 -- the value of what recovery left, in bytes
-pub level-follows : {count total w : ℕ} {support ds values out after point : List ℕ} {number : ℕ} {answer : Reply}
-    → Decides (RecoverHolds count total w support ds values out) w ds (decoded values) number (decoded after)
-    → Valued (ValueHolds count total w support ds after point) w ds (decoded after) (decoded point) answer
+pub level-follows : (count : ℕ) {total w : ℕ} {support ds values out after point : List ℕ} {number : ℕ} {answer : Reply}
+    → Decides (CallPasses 4096 true total (widthFits w) (decoded support) ds (λ n. (support, count * 8) ∷ (values, n * 8) ∷ (out, n * 8) ∷ []))
+    w ds (decoded values) number (decoded after)
+    → Valued (CallPasses 4096 false total (widthFits w) (decoded support) ds (λ n. (support, count * 8) ∷ (after, n * 8) ∷ (point, count * 8) ∷ []))
+    w ds (decoded after) (decoded point) answer
     → length after ≡ length out → number ≡ 0 → length point ≡ count * 8
     → (p : List Term) → Agreeing w ds (decoded values) p → (zs : List ℤ) → PointOf w ds (decoded point) zs → answer ≡ accepted (polynomialValue w ds p zs)
-level-follows {answer = answer} call value same zero e p a zs h =
-    let holds = call .decided .0 (inl zero) in
-    let z = value .accepted .1 (record { settings = holds .settings; coefficient-bytes = same ∙ holds .output-bytes; point-bytes = e }) in
+level-follows count {answer = answer} call value same zero e p a zs h =
+    let passed = call .decided .0 (inl zero) in
+    let exact = passed .lengths in
+    let z = value .accepted .1 (passes-with passed (passed .width) (exact .0, (same ∙ exact .1 .1 .0, (e, tt)))) in
     reply-accepted answer _ z (value .values z zs h ∙ call .values zero p a zs)

@@ -1,10 +1,12 @@
 // Recovery of several grids.
 ghost use mathlib.Core.Path.{_≡_};
+ghost use mathlib.Core.Bool.{true};
+ghost use mathlib.Core.List.{[], _∷_};
 ghost use lib.ListN.{length};
 ghost use Rattle.meaning.specs.Boxes.{cells};
-ghost use Rattle.meaning.specs.Settings.{cube};
+ghost use Rattle.meaning.specs.Settings.{cube, widthFits};
 ghost use Rattle.demand3.specs.Words.{GridSum, Contains};
-ghost use Rattle.demand3.specs.Settings.{Passing};
+ghost use Rattle.demand3.specs.Settings.{CallPasses};
 ghost use Rattle.answers.specs.Said.{saidNumber};
 use answers::Outcome;
 
@@ -70,7 +72,8 @@ fn recover_larger(
 ) -> GridOutcomes
     ensures { λ r. ⌜ (Contains width (cube (now (support .entry)) higher) (now (large .entry)) (cube (now (support .entry)) degree) (now (small .entry))
         → saidNumber (r .small) ≡ 6
-        → Passing 65536 total width (now (support .entry)) (cube (now (support .entry)) higher) (now (large .entry)) (now (b .entry))
+        → CallPasses 65536 true total (widthFits width) (now (support .entry)) (cube (now (support .entry)) higher)
+        (λ n. (now (large .entry), n) ∷ (now (b .entry), n) ∷ [])
         → saidNumber (r .large) ≡ 6) ⌝ }
 {
     let first = multivar_poly_recovery::recover_multivar_poly(

@@ -1,14 +1,16 @@
 // Calls on boxes of coefficients and grids of values: the calls of `poly`, `basis_transform`, `poly_normalizer` and `multivar_poly_recovery`. Tables and
 // support are of u64, first support variable fastest; what a call does is said there.
 ghost use mathlib.Core.Path.{_≡_};
-ghost use mathlib.Core.Bool.{false};
+ghost use mathlib.Core.Bool.{true, false};
 ghost use Prim.Native.Nat.{_^_};
-ghost use Rattle.meaning.specs.Settings.{cube};
+ghost use mathlib.Core.List.{[], _∷_};
+ghost use lib.ListN.{length};
+ghost use Rattle.meaning.specs.Settings.{cube, widthFits};
 ghost use Rattle.meaning.specs.Conversions.{fallingBox, powerBox, normalBox};
 ghost use Rattle.meaning.specs.Calls.{validReply, sameReply, valueReply, sumNumber, sumLeft, reduceNumber, reduceLeft, inOutNumber, convertLeft, recoveryNumber, recoveryLeft};
 ghost use Rattle.meaning.specs.Replies.{told};
 ghost use Rattle.meaning.specs.Singletons.{singletonNumber, singletonLeft};
-ghost use Rattle.demand3.specs.Settings.{ValidPasses, ValuePasses, SumPasses, ReducePasses, ConvertPasses, Passing};
+ghost use Rattle.demand3.specs.Settings.{CallPasses};
 ghost use Rattle.demand3.specs.Promises.{Judged, Valued, Summed, Reduced, ToFalling, ToPowers, Normalised, Decides};
 ghost use Rattle.settings.specs.Forms.{cubeForm};
 
@@ -24,7 +26,8 @@ pub extern "C" fn cobra_box_is_valid(
 ) -> u32
     ensures says { λ r. ⌜ told r (now (value .exit)) ≡ validReply total width (now (support .entry)) (cube (now (support .entry)) degree)
         (now (coeffs .entry)) ⌝ }
-    ensures judges { λ r. ⌜ Judged (ValidPasses total (now (support .entry)) (cube (now (support .entry)) degree) (now (coeffs .entry)))
+    ensures judges { λ r. ⌜ Judged (CallPasses 65536 false total true (now (support .entry)) (cube (now (support .entry)) degree)
+        (λ n. (now (coeffs .entry), n) ∷ []))
         width (cube (now (support .entry)) degree) (now (coeffs .entry)) (told r (now (value .exit))) ⌝ }
 {
     answers::deliver_truth(poly::is_valid(coeffs, support, total, width, degree), value)
@@ -78,8 +81,8 @@ pub extern "C" fn cobra_box_value(
 ) -> u32
     ensures says { λ r. ⌜ told r (now (value .exit)) ≡ valueReply total width (now (support .entry)) (cube (now (support .entry)) degree)
         (now (coeffs .entry)) (now (point .entry)) ⌝ }
-    ensures values { λ r. ⌜ Valued (ValuePasses total width (now (support .entry)) (cube (now (support .entry)) degree) (now (coeffs .entry))
-        (now (point .entry)))
+    ensures values { λ r. ⌜ Valued (CallPasses 65536 false total (widthFits width) (now (support .entry)) (cube (now (support .entry)) degree)
+        (λ n. (now (coeffs .entry), n) ∷ (now (point .entry), length (now (support .entry))) ∷ []))
         width (cube (now (support .entry)) degree) (now (coeffs .entry)) (now (point .entry)) (told r (now (value .exit))) ⌝ }
 {
     answers::deliver(
@@ -103,8 +106,8 @@ pub extern "C" fn cobra_box_sum(
         (now (out .entry)) ⌝ }
     ensures leaves { λ r. ⌜ now (out .exit) ≡ sumLeft total width (now (support .entry)) (cube (now (support .entry)) degree) (now (a .entry))
         (now (b .entry)) (now (out .entry)) ⌝ }
-    ensures sums { λ r. ⌜ Summed (SumPasses total width (now (support .entry)) (cube (now (support .entry)) degree) (now (a .entry))
-        (now (b .entry)) (now (out .entry)))
+    ensures sums { λ r. ⌜ Summed (CallPasses 65536 false total (widthFits width) (now (support .entry)) (cube (now (support .entry)) degree)
+        (λ n. (now (a .entry), n) ∷ (now (b .entry), n) ∷ (now (out .entry), n) ∷ []))
         width (cube (now (support .entry)) degree) (now (a .entry)) (now (b .entry)) r (now (out .exit)) ⌝ }
 {
     answers::outcome_code(poly::sum(a, b, support, total, width, degree, out))
@@ -121,7 +124,8 @@ pub extern "C" fn cobra_reduce(
 ) -> u32
     ensures says { λ r. ⌜ r ≡ reduceNumber total width (now (support .entry)) (cube (now (support .entry)) degree) (now (coeffs .entry)) ⌝ }
     ensures leaves { λ r. ⌜ now (coeffs .exit) ≡ reduceLeft total width (now (support .entry)) (cube (now (support .entry)) degree) (now (coeffs .entry)) ⌝ }
-    ensures reduces { λ r. ⌜ Reduced (ReducePasses total width (now (support .entry)) (cube (now (support .entry)) degree) (now (coeffs .entry)))
+    ensures reduces { λ r. ⌜ Reduced (CallPasses 65536 false total (widthFits width) (now (support .entry)) (cube (now (support .entry)) degree)
+        (λ n. (now (coeffs .entry), n) ∷ []))
         width (cube (now (support .entry)) degree) (now (coeffs .entry)) r (now (coeffs .exit)) ⌝ }
 {
     answers::outcome_code(poly::reduce(coeffs, support, total, width, degree))
@@ -142,8 +146,8 @@ pub extern "C" fn cobra_to_factorial_basis(
     ensures leaves { λ r. ⌜ now (out .exit) ≡ convertLeft total width (now (support .entry)) (cube (now (support .entry)) degree)
         (now (coeffs .entry)) (now (out .entry))
         (fallingBox (2 ^ width) (cube (now (support .entry)) degree) (now (coeffs .entry))) ⌝ }
-    ensures converts { λ r. ⌜ ToFalling (ConvertPasses total width (now (support .entry)) (cube (now (support .entry)) degree)
-        (now (coeffs .entry)) (now (out .entry)))
+    ensures converts { λ r. ⌜ ToFalling (CallPasses 65536 false total (widthFits width) (now (support .entry)) (cube (now (support .entry)) degree)
+        (λ n. (now (coeffs .entry), n) ∷ (now (out .entry), n) ∷ []))
         width (cube (now (support .entry)) degree) (now (coeffs .entry)) r (now (out .exit)) ⌝ }
 {
     answers::outcome_code(basis_transform::to_factorial_basis(
@@ -171,8 +175,8 @@ pub extern "C" fn cobra_to_monomial_basis(
     ensures leaves { λ r. ⌜ now (out .exit) ≡ convertLeft total width (now (support .entry)) (cube (now (support .entry)) degree)
         (now (coeffs .entry)) (now (out .entry))
         (powerBox (2 ^ width) (cube (now (support .entry)) degree) (now (coeffs .entry))) ⌝ }
-    ensures converts { λ r. ⌜ ToPowers (ConvertPasses total width (now (support .entry)) (cube (now (support .entry)) degree)
-        (now (coeffs .entry)) (now (out .entry)))
+    ensures converts { λ r. ⌜ ToPowers (CallPasses 65536 false total (widthFits width) (now (support .entry)) (cube (now (support .entry)) degree)
+        (λ n. (now (coeffs .entry), n) ∷ (now (out .entry), n) ∷ []))
         width (cube (now (support .entry)) degree) (now (coeffs .entry)) r (now (out .exit)) ⌝ }
 {
     answers::outcome_code(basis_transform::to_monomial_basis(
@@ -200,8 +204,8 @@ pub extern "C" fn cobra_normalize_polynomial(
     ensures leaves { λ r. ⌜ now (out .exit) ≡ convertLeft total width (now (support .entry)) (cube (now (support .entry)) degree)
         (now (coeffs .entry)) (now (out .entry))
         (normalBox width (cube (now (support .entry)) degree) (now (coeffs .entry))) ⌝ }
-    ensures normalises { λ r. ⌜ Normalised (ConvertPasses total width (now (support .entry)) (cube (now (support .entry)) degree)
-        (now (coeffs .entry)) (now (out .entry)))
+    ensures normalises { λ r. ⌜ Normalised (CallPasses 65536 false total (widthFits width) (now (support .entry)) (cube (now (support .entry)) degree)
+        (λ n. (now (coeffs .entry), n) ∷ (now (out .entry), n) ∷ []))
         width (cube (now (support .entry)) degree) (now (coeffs .entry)) r (now (out .exit)) ⌝ }
 {
     answers::outcome_code(poly_normalizer::normalize_polynomial(
@@ -228,8 +232,8 @@ pub extern "C" fn cobra_recover_multivar_poly(
         (now (out .entry)) ⌝ }
     ensures leaves { λ r. ⌜ now (out .exit) ≡ recoveryLeft total width (now (support .entry)) (cube (now (support .entry)) degree)
         (now (values .entry)) (now (out .entry)) ⌝ }
-    ensures decides { λ r. ⌜ Decides (Passing 65536 total width (now (support .entry)) (cube (now (support .entry)) degree)
-        (now (values .entry)) (now (out .entry)))
+    ensures decides { λ r. ⌜ Decides (CallPasses 65536 true total (widthFits width) (now (support .entry)) (cube (now (support .entry)) degree)
+        (λ n. (now (values .entry), n) ∷ (now (out .entry), n) ∷ []))
         width (cube (now (support .entry)) degree) (now (values .entry)) r (now (out .exit)) ⌝ }
 {
     answers::outcome_code(multivar_poly_recovery::recover_multivar_poly(

@@ -1,14 +1,16 @@
 // The database's calls: tables and support cross as bytes, eight to an entry, least first, at most 4,096 entries each. The support's count crosses as a
 // number. What a call does is said in `byte_calls`.
 ghost use mathlib.Core.Path.{_≡_};
-ghost use Prim.Native.Nat.{min};
-ghost use Rattle.meaning.specs.Settings.{cube};
+ghost use mathlib.Core.Bool.{true, false};
+ghost use Prim.Native.Nat.{_*_, min};
+ghost use mathlib.Core.List.{[], _∷_};
+ghost use Rattle.meaning.specs.Settings.{cube, widthFits};
 ghost use Rattle.meaning.specs.Replies.{told};
+ghost use Rattle.demand3.specs.Settings.{CallPasses};
 ghost use Rattle.demand3.specs.Promises.{Decides, Valued};
 ghost use Rattle.weighted_poly_fit.specs.Fits.{Fits};
 ghost use Rattle.byte_calls.specs.Bytes.{decoded};
 ghost use Rattle.byte_calls.specs.Calls.{bytesRecoveryNumber, bytesRecoveryLeft, bytesValueReply, fitHeld, fitBytesReply, fitBytesLeft};
-ghost use Rattle.byte_calls.specs.Passing.{RecoverHolds, ValueHolds};
 
 // Recovery from the values on a grid; 6 where no polynomial of any degree has them.
 #[no_mangle]
@@ -25,8 +27,9 @@ pub extern "C" fn cobra_recover(
         (now (values .entry)) (now (out .entry)) ⌝ }
     ensures leaves { λ r. ⌜ now (out .exit) ≡ bytesRecoveryLeft count total width (now (support .entry)) (cube (decoded (now (support .entry))) degree)
         (now (values .entry)) (now (out .entry)) ⌝ }
-    ensures decides { λ r. ⌜ Decides (RecoverHolds count total width (now (support .entry)) (cube (decoded (now (support .entry))) degree)
-        (now (values .entry)) (now (out .entry)))
+    ensures decides { λ r. ⌜ Decides (CallPasses 4096 true total (widthFits width) (decoded (now (support .entry)))
+        (cube (decoded (now (support .entry))) degree)
+        (λ n. (now (support .entry), count * 8) ∷ (now (values .entry), n * 8) ∷ (now (out .entry), n * 8) ∷ []))
         width (cube (decoded (now (support .entry))) degree) (decoded (now (values .entry))) r (decoded (now (out .exit))) ⌝ }
 {
     answers::outcome_code(byte_calls::recover(values, support, count, total, width, degree, out))
@@ -46,8 +49,9 @@ pub extern "C" fn cobra_value(
 ) -> u32
     ensures says { λ r. ⌜ told r (now (value .exit)) ≡ bytesValueReply count total width (now (support .entry))
         (cube (decoded (now (support .entry))) degree) (now (coeffs .entry)) (now (point .entry)) ⌝ }
-    ensures values { λ r. ⌜ Valued (ValueHolds count total width (now (support .entry)) (cube (decoded (now (support .entry))) degree)
-        (now (coeffs .entry)) (now (point .entry)))
+    ensures values { λ r. ⌜ Valued (CallPasses 4096 false total (widthFits width) (decoded (now (support .entry)))
+        (cube (decoded (now (support .entry))) degree)
+        (λ n. (now (support .entry), count * 8) ∷ (now (coeffs .entry), n * 8) ∷ (now (point .entry), count * 8) ∷ []))
         width (cube (decoded (now (support .entry))) degree) (decoded (now (coeffs .entry))) (decoded (now (point .entry))) (told r
         (now (value .exit))) ⌝ }
 {

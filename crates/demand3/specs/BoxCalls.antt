@@ -5,7 +5,7 @@ use mathlib.Core.Bool.{Bool, true, false, _&&_}
 use Prim.Native.Nat.{ℕ, zero, suc, _+_, _%_, _^_}
 use mathlib.Core.List.{List, [], _∷_, map}
 use native.Mathlib.Nat.{zero-mod, mod-lt}
-use borrow.Author.Tests.{ltb-true, lt-ltb, eqb-true, eq-eqb}
+use borrow.Author.Tests.{ltb-true, lt-ltb}
 use lib.Dec.{T, ltb, eqb}
 use lib.Pow.{pow-pos}
 use lib.IntN.{ℤ, pos}
@@ -30,7 +30,7 @@ use Rattle.theory.specs.ConversionLaws.{value-fallingBox, eval-powerBox, fallin
 use Rattle.theory.specs.Widths.{bound-pos}
 use Rattle.demand3.specs.Words.{boxValue, PointOf, NormalForm, SumOf}
 use Rattle.demand3.specs.Tests.{and-true, false-true, suc-zero}
-use Rattle.demand3.specs.Settings.{WidthFits, BoxPasses, ValuePasses, ReducePasses, ConvertPasses, SumPasses, ValidPasses, call-iff}
+use Rattle.demand3.specs.Settings.{WidthFits, Lengths, CallPasses, exactly, call-iff}
 use Rattle.demand3.specs.Promises.{Valued, Summed, Reduced, Judged, ToFalling, ToPowers, Normalised}
 use Rattle.demand3.specs.SameWords.{normal-iff}
 use Rattle.demand3.specs.Coefficients.{value-coefficients}
@@ -107,55 +107,38 @@ reduced-value w ds c zs =
 
 -- ---- settings and lengths
 
-both-iff : (a b n : ℕ) → (c : ℕ) → (eqb a n && eqb b c ≡ true) ↔ ((a ≡ n) × (b ≡ c))
-both-iff a b n c =
-    let both = and-true (eqb a n) (eqb b c) in
-    (λ e. (eqb-true a n (both .0 e .0), eqb-true b c (both .0 e .1)), λ e. both .1 (eq-eqb a n (e .0), eq-eqb b c (e .1)))
-
 module _ (total w : ℕ) (support ds : List ℕ) where
-  passes-iff : {L : Type 0} (exact : Bool) → (exact ≡ true) ↔ L
-      → (callNumber false total (widthFits w) support ds exact ≡ 0) ↔ (BoxPasses total w support ds × L)
-  passes-iff exact lengths =
-      let all = call-iff false total (widthFits w) support ds exact in (
-        λ e. let s = all .0 e in ((s .0, s .1), lengths .0 (s .3)),
-        λ s. all .1 (s .0 .0, s .0 .1, λ h. false-true (sym h), lengths .1 (s .1)),
-      )
+  -- a call that asks a width that fits, and allows degree 0
+  abbrev Passes : (ℕ → Lengths) → Type 0
+  Passes = CallPasses 65536 false total (widthFits w) support ds
+
+  passing : (tables : ℕ → Lengths) {number : ℕ} → number ≡ callNumber false total (widthFits w) support ds (exactly true (tables (cells ds)))
+      → (number ≡ 0) ↔ Passes tables
+  passing tables = accepted-iff (call-iff false total (widthFits w) support ds tables)
 
   -- the value on tables of numbers
-  pub table-valued : (c xs : List ℕ) {answer : Reply} → answer ≡ valueReply total w support ds c xs → Valued (ValuePasses total w support ds c xs) w ds c xs answer
+  pub table-valued : (c xs : List ℕ) {answer : Reply} → answer ≡ valueReply total w support ds c xs
+      → Valued (Passes (λ n. (c, n) ∷ (xs, length support) ∷ [])) w ds c xs answer
   unfolding valueReply
-  table-valued c xs e = valued w ds c xs _ (passes-iff _ (both-iff (length c) (length xs) (cells ds) (length support))) e
-
-  convert-iff : (c out : List ℕ) → (inOutNumber false total w support ds c out ≡ 0) ↔ ConvertPasses total w support ds c out
-  convert-iff c out = passes-iff _ (both-iff (length c) (length out) (cells ds) (cells ds))
+  table-valued c xs e = valued w ds c xs _ (passing (λ n. (c, n) ∷ (xs, length support) ∷ []) refl) e
 
   -- the sum
-  sum-iff : (a b out : List ℕ) → (sumNumber total w support ds a b out ≡ 0) ↔ SumPasses total w support ds a b out
-  unfolding sumNumber
-  sum-iff a b out =
-      let two = both-iff (length a) (length b) (cells ds) (cells ds) in
-      let all = and-true (eqb (length a) (cells ds) && eqb (length b) (cells ds)) (eqb (length out) (cells ds)) in
-      passes-iff _ (
-        λ e. let s = all .0 e in let t = two .0 (s .0) in (t .0, t .1, eqb-true (length out) (cells ds) (s .1)),
-        λ s. all .1 (two .1 (s .0, s .1), eq-eqb (length out) (cells ds) (s .2)),
-      )
-
   pub summed : (a b out : List ℕ) {number : ℕ} {after : List ℕ} → number ≡ sumNumber total w support ds a b out
-      → after ≡ sumLeft total w support ds a b out → Summed (SumPasses total w support ds a b out) w ds a b number after
-  unfolding sumLeft
+      → after ≡ sumLeft total w support ds a b out → Summed (Passes (λ n. (a, n) ∷ (b, n) ∷ (out, n) ∷ [])) w ds a b number after
+  unfolding sumNumber sumLeft
   summed a b out e f =
       record {
-        accepted = accepted-iff (sum-iff a b out) e;
+        accepted = passing (λ n. (a, n) ∷ (b, n) ∷ (out, n) ∷ []) e;
         sum = λ z. rw (f ∙ ap (λ (k : ℕ). left k (boxTotal (bound w) ds a b) out) (sym e ∙ z)) (total-sum w ds a b);
       }
 
   -- reduction in place
   pub reduced : (c : List ℕ) {number : ℕ} {after : List ℕ} → number ≡ reduceNumber total w support ds c → after ≡ reduceLeft total w support ds c
-      → Reduced (ReducePasses total w support ds c) w ds c number after
+      → Reduced (Passes (λ n. (c, n) ∷ [])) w ds c number after
   unfolding reduceNumber reduceLeft
   reduced c {number} {after} e f =
       record {
-        accepted = accepted-iff (passes-iff _ (λ x. eqb-true (length c) (cells ds) x, λ x. eq-eqb (length c) (cells ds) x)) e;
+        accepted = passing (λ n. (c, n) ∷ []) e;
         normal = λ z. rw (after-0 z) (normal-iff w ds (boxReduced (bound w) ds c) .0 (reduced-normal w ds c));
         values = λ z zs. rw (after-0 z) (reduced-value w ds c zs);
       }
@@ -165,16 +148,20 @@ module _ (total w : ℕ) (support ds : List ℕ) where
 
   -- ---- conversions
 
+  -- a table in and a table out
+  abbrev Converts : List ℕ → List ℕ → Type 0
+  Converts c out = Passes (λ n. (c, n) ∷ (out, n) ∷ [])
+
   module _ (c out : List ℕ) {number : ℕ} {after : List ℕ} (e : number ≡ inOutNumber false total w support ds c out) where
     -- what is left after 0
     after-0 : (box : List ℕ) → after ≡ convertLeft total w support ds c out box → number ≡ 0 → after ≡ box
     unfolding convertLeft
     after-0 box f z = f ∙ ap (λ (k : ℕ). left k box out) (sym e ∙ z)
 
-    pub to-falling : after ≡ convertLeft total w support ds c out (fallingBox (2 ^ w) ds c) → ToFalling (ConvertPasses total w support ds c out) w ds c number after
+    pub to-falling : after ≡ convertLeft total w support ds c out (fallingBox (2 ^ w) ds c) → ToFalling (Converts c out) w ds c number after
     to-falling f =
         record {
-          accepted = accepted-iff (convert-iff c out) e;
+          accepted = passing (λ n. (c, n) ∷ (out, n) ∷ []) e;
           whole = λ z. rw (after-0 _ f z) (fallingBox-bounded (pow-pos w) ds c .whole);
           below = λ z. rw (after-0 _ f z) (fallingBox-bounded (pow-pos w) ds c .below);
           values = λ z p h zs.
@@ -185,10 +172,10 @@ module _ (total w : ℕ) (support ds : List ℕ) where
               );
         }
 
-    pub to-powers : after ≡ convertLeft total w support ds c out (powerBox (2 ^ w) ds c) → ToPowers (ConvertPasses total w support ds c out) w ds c number after
+    pub to-powers : after ≡ convertLeft total w support ds c out (powerBox (2 ^ w) ds c) → ToPowers (Converts c out) w ds c number after
     to-powers f =
         record {
-          accepted = accepted-iff (convert-iff c out) e;
+          accepted = passing (λ n. (c, n) ∷ (out, n) ∷ []) e;
           whole = λ z. rw (after-0 _ f z) (powerBox-bounded (pow-pos w) ds c .whole);
           below = λ z. rw (after-0 _ f z) (powerBox-bounded (pow-pos w) ds c .below);
           values = λ z p h zs.
@@ -198,10 +185,10 @@ module _ (total w : ℕ) (support ds : List ℕ) where
         }
 
     -- the normal form
-    pub normalised : after ≡ convertLeft total w support ds c out (normalBox w ds c) → Normalised (ConvertPasses total w support ds c out) w ds c number after
+    pub normalised : after ≡ convertLeft total w support ds c out (normalBox w ds c) → Normalised (Converts c out) w ds c number after
     normalised f =
         record {
-          accepted = accepted-iff (convert-iff c out) e;
+          accepted = passing (λ n. (c, n) ∷ (out, n) ∷ []) e;
           form = λ z p h. rw (after-0 _ f z) (normalBox-of w ds p c h);
           only = λ z p h d n. normal-form-unique w ds p d (normalBox w ds c) n (normalBox-of w ds p c h) ∙ sym (after-0 _ f z);
         }
@@ -231,10 +218,12 @@ module _ (w : ℕ) (ds c : List ℕ) where
         λ s. both .1 (s .0, true-of _ (all .1 (λ n l. subst T (sym (lt-ltb _ _ (normal-iff w ds c .1 (s .1) .below n l))) tt))),
       )
 
-  pub judged : (total : ℕ) (support : List ℕ) {answer : Reply} → answer ≡ validReply total w support ds c → Judged (ValidPasses total support ds c) w ds c answer
+  pub judged : (total : ℕ) (support : List ℕ) {answer : Reply} → answer ≡ validReply total w support ds c
+      → Judged (CallPasses 65536 false total true support ds (λ n. (c, n) ∷ [])) w ds c answer
   unfolding validReply
   judged total support e =
       let cause = callNumber false total true support ds (eqb (length c) (cells ds)) in
+      let passes = call-iff false total true support ds (λ n. (c, n) ∷ []) in
       let test = widthFits w && every (cells ds) (λ n. ltb (at c n) (bound w (digits ds n))) in
       let n = ap (λ (r : Reply). r .number) e ∙ number-reply cause (truth test) in
       record {
@@ -242,17 +231,10 @@ module _ (w : ℕ) (ds c : List ℕ) where
         either = rw e (truth-either cause test);
         yes = λ z.
             let v = ap (λ (r : Reply). r .value) e ∙ reply-value cause (truth test) (sym n ∙ z) in
-            let i = test-iff (passes .0 (sym n ∙ z) .1) in
+            let i = test-iff (passes .0 (sym n ∙ z) .lengths .0) in
             (λ y. i .0 (truth-iff test .0 (sym v ∙ y)), λ s. v ∙ truth-iff test .1 (i .1 s));
       }
     where
-      passes : (callNumber false total true support ds (eqb (length c) (cells ds)) ≡ 0) ↔ ValidPasses total support ds c
-      passes =
-          let all = call-iff false total true support ds (eqb (length c) (cells ds)) in (
-            λ z. let s = all .0 z in (s .0, eqb-true (length c) (cells ds) (s .3)),
-            λ s. all .1 (s .0, refl, λ h. false-true (sym h), eq-eqb (length c) (cells ds) (s .1)),
-          )
-
       truth-either : (k : ℕ) (b : Bool) → (reply k (truth b) .value ≡ 0) ⊎ (reply k (truth b) .value ≡ 1)
       truth-either zero true = inr refl
       truth-either zero false = inl refl

@@ -3,16 +3,16 @@ use mathlib.Core.Path.{_≡_, refl, sym, ap, _∙_}
 use mathlib.Core.Logic.{_⊎_, inl, inr, _↔_}
 use mathlib.Core.Bool.{Bool, true, false, cond}
 use Prim.Native.Nat.{ℕ}
-use mathlib.Core.List.{List}
+use mathlib.Core.List.{List, [], _∷_}
 use lib.Dec.{T}
 use Rattle.meaning.specs.Tables.{tabulate}
 use Rattle.meaning.specs.Boxes.{cells}
 use Rattle.meaning.specs.Recovery.{accepts, answer}
-use Rattle.meaning.specs.Settings.{first}
+use Rattle.meaning.specs.Settings.{widthFits, first}
 use Rattle.meaning.specs.Calls.{inOutNumber, left, recoveryNumber, recoveryLeft}
 use Rattle.demand3.specs.Tests.{suc-zero, first-zero, first-6}
 use Rattle.demand3.specs.Promises.{Decides}
-use Rattle.demand3.specs.Settings.{Passing, passing-iff, passing-not-6}
+use Rattle.demand3.specs.Settings.{CallPasses, passing-iff, passing-not-6}
 use Rattle.demand3.specs.Recovery.{accepts-of-onGrid, agreeing-of-accepts, answer-normal, answer-agrees, answer-values, answer-decides, answer-unique, disagreement, another}
 
 -- 0 where every difference passes, else 6
@@ -116,8 +116,9 @@ module _ {C : Type 0} (w : ℕ) (ds v : List ℕ) (cause : ℕ) (conditions : (c
 -- the call on tables of numbers
 pub tables-decide : (total w : ℕ) (support ds v out : List ℕ) {number : ℕ} {after : List ℕ}
     → number ≡ recoveryNumber total w support ds v out → after ≡ recoveryLeft total w support ds v out
-    → Decides (Passing 65536 total w support ds v out) w ds v number after
+    → Decides (CallPasses 65536 true total (widthFits w) support ds (λ n. (v, n) ∷ (out, n) ∷ [])) w ds v number after
 unfolding recoveryNumber recoveryLeft
 tables-decide total w support ds v out e f =
-    decides w ds v (inOutNumber true total w support ds v out) (passing-iff total w support ds v out) (passing-not-6 total w support ds v out) e
+    decides w ds v (inOutNumber true total w support ds v out) (passing-iff 65536 true total (widthFits w) support ds [] (λ n. (v, n) ∷ (out, n) ∷ []))
+    (passing-not-6 65536 true total (widthFits w) support ds [] (λ n. (v, n) ∷ (out, n) ∷ [])) e
     (λ z. f ∙ ap (λ (k : ℕ). left k (cond (accepts w ds v) (answer w ds v) (tabulate (cells ds) (λ n. 0))) out) z)

@@ -1,5 +1,5 @@
--- What the calls promise, in the words of demand 3, over what a call returned and left. C says when settings and lengths pass: each call has its own limit
--- and its own lengths. The contracts of the compiled calls cite these records.
+-- What the calls promise, in the words of demand 3, over what a call returned and left. C says when settings and lengths pass (`CallPasses`): each call has its
+-- own limit and its own lengths. The contracts of the compiled calls cite these records.
 use mathlib.Core.Path.{_≡_}
 use mathlib.Core.Logic.{_⊎_, _↔_}
 use Prim.Native.Nat.{ℕ, suc, _^_, _<_}

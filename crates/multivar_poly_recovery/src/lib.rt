@@ -1,8 +1,10 @@
 // Recovery of a polynomial's coefficients from its values on a grid: Newton's differences, then each divided by the factorials of its exponents.
 ghost use mathlib.Core.Path.{_≡_};
-ghost use Rattle.meaning.specs.Settings.{cube};
+ghost use mathlib.Core.Bool.{true};
+ghost use mathlib.Core.List.{[], _∷_};
+ghost use Rattle.meaning.specs.Settings.{cube, widthFits};
 ghost use Rattle.meaning.specs.Calls.{recoveryNumber, recoveryLeft};
-ghost use Rattle.demand3.specs.Settings.{Passing};
+ghost use Rattle.demand3.specs.Settings.{CallPasses};
 ghost use Rattle.demand3.specs.Promises.{Decides};
 ghost use Rattle.answers.specs.Said.{saidNumber};
 
@@ -30,8 +32,8 @@ pub fn recover_multivar_poly(
 ) -> Outcome
     ensures says { λ r. ⌜ saidNumber r ≡ recoveryNumber total bitwidth (now (support .entry)) (cube (now (support .entry)) «max_degree») (now (values .entry)) (now (out .entry)) ⌝ }
     ensures leaves { λ r. ⌜ now (out .exit) ≡ recoveryLeft total bitwidth (now (support .entry)) (cube (now (support .entry)) «max_degree») (now (values .entry)) (now (out .entry)) ⌝ }
-    ensures decides { λ r. ⌜ Decides (Passing 65536 total bitwidth (now (support .entry)) (cube (now (support .entry)) «max_degree»)
-        (now (values .entry)) (now (out .entry)))
+    ensures decides { λ r. ⌜ Decides (CallPasses 65536 true total (widthFits bitwidth) (now (support .entry)) (cube (now (support .entry)) «max_degree»)
+        (λ n. (now (values .entry), n) ∷ (now (out .entry), n) ∷ []))
         bitwidth (cube (now (support .entry)) «max_degree») (now (values .entry)) (saidNumber r) (now (out .exit)) ⌝ }
 {
     grid::recover_checked(values, support, total, bitwidth, max_degree, out)

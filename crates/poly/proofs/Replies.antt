@@ -2,7 +2,7 @@
 -- accepted call.
 use mathlib.Core.Path.{_≡_, refl, sym, _∙_, ap}
 use mathlib.Core.Bool.{Bool, true, false, _&&_, and-false}
-use mathlib.Core.List.{List}
+use mathlib.Core.List.{List, [], _∷_}
 use Prim.Native.Nat.{ℕ, zero, suc, _^_, _<_}
 use lib.Dec.{eqb}
 use lib.ListN.{length}
@@ -15,7 +15,7 @@ use Rattle.meaning.specs.Calls.{reply, truth, Form, formNumber, sameList, left}
 use Rattle.meaning.specs.Calls.{validReply, valueReply, sameReply, sumNumber, sumLeft, reduceNumber, reduceLeft}
 use Rattle.settings.specs.Causes.{passes}
 use Rattle.box_rows.specs.Bounds.{isBelow}
-use Rattle.demand3.specs.Settings.{ValuePasses, ValidPasses, SumPasses, ReducePasses}
+use Rattle.demand3.specs.Settings.{CallPasses}
 use Rattle.demand3.specs.Promises.{Valued, Judged, Summed, Reduced}
 use Rattle.demand3.specs.BoxCalls.{table-valued, judged, summed, reduced}
 use Rattle.demand3.specs.Also.{also, also₂}
@@ -30,7 +30,7 @@ use Rattle.settings.specs.Settled.{Settled, Unsettled, unsettled-call, turned-r
 abbrev ValueSaid : ℕ → ℕ → List ℕ → List ℕ → List ℕ → List ℕ → Reply → Type 0
 ValueSaid total w support ds c xs r =
     (r ≡ valueReply total w support ds c xs)
-    × Valued (ValuePasses total w support ds c xs) w ds c xs r
+    × Valued (CallPasses 65536 false total (widthFits w) support ds (λ n. (c, n) ∷ (xs, length support) ∷ [])) w ds c xs r
 
 module _ (w : ℕ) (c xs : List ℕ) {total : ℕ} {support ds : List ℕ} where
   pub value-turned : {r : Refusal} → Unsettled false total (widthFits w) support ds r → ValueSaid total w support ds c xs (refused (code r))
@@ -60,7 +60,8 @@ abbrev pub isNormal : ℕ → List ℕ → List ℕ → Bool
 isNormal w ds c = widthFits w && every (cells ds) (isBelow w ds c)
 
 abbrev pub ValidSaid : ℕ → ℕ → List ℕ → List ℕ → List ℕ → Reply → Type 0
-ValidSaid total w support ds c r = (r ≡ validReply total w support ds c) × Judged (ValidPasses total support ds c) w ds c r
+ValidSaid total w support ds c r =
+    (r ≡ validReply total w support ds c) × Judged (CallPasses 65536 false total true support ds (λ n. (c, n) ∷ [])) w ds c r
 
 module _ (w : ℕ) (c : List ℕ) {total : ℕ} {support ds : List ℕ} where
   pub valid-turned : {r : Refusal} → Unsettled false total true support ds r → ValidSaid total w support ds c (refused (code r))
@@ -98,7 +99,9 @@ module _ (exact : Bool) (done was : List ℕ) {total : ℕ} {fits : Bool} {suppo
 -- the sum of two boxes
 abbrev SumSaid : ℕ → ℕ → List ℕ → List ℕ → List ℕ → List ℕ → List ℕ → ℕ → List ℕ → Type 0
 SumSaid total w support ds a b out n t =
-    (n ≡ sumNumber total w support ds a b out) × ((t ≡ sumLeft total w support ds a b out) × Summed (SumPasses total w support ds a b out) w ds a b n t)
+    (n ≡ sumNumber total w support ds a b out)
+    × ((t ≡ sumLeft total w support ds a b out)
+    × Summed (CallPasses 65536 false total (widthFits w) support ds (λ n. (a, n) ∷ (b, n) ∷ (out, n) ∷ [])) w ds a b n t)
 
 module _ (w : ℕ) (a b out : List ℕ) {total : ℕ} {support ds : List ℕ} where
   pub sum-turned : {r : Refusal} → Unsettled false total (widthFits w) support ds r
@@ -126,7 +129,8 @@ module _ (w : ℕ) (a b out : List ℕ) {total : ℕ} {support ds : List ℕ} wh
 -- coefficients taken modulo their bounds
 abbrev ReduceSaid : ℕ → ℕ → List ℕ → List ℕ → List ℕ → ℕ → List ℕ → Type 0
 ReduceSaid total w support ds c n t =
-    (n ≡ reduceNumber total w support ds c) × ((t ≡ reduceLeft total w support ds c) × Reduced (ReducePasses total w support ds c) w ds c n t)
+    (n ≡ reduceNumber total w support ds c)
+    × ((t ≡ reduceLeft total w support ds c) × Reduced (CallPasses 65536 false total (widthFits w) support ds (λ n. (c, n) ∷ [])) w ds c n t)
 
 module _ (w : ℕ) (c : List ℕ) {total : ℕ} {support ds : List ℕ} where
   pub reduce-turned : {r : Refusal} → Unsettled false total (widthFits w) support ds r

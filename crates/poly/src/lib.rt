@@ -1,8 +1,11 @@
 // Boxes of coefficients: validity, sameness, value at a point, sum.
 ghost use mathlib.Core.Path.{_≡_};
-ghost use Rattle.meaning.specs.Settings.{cube};
+ghost use mathlib.Core.Bool.{true, false};
+ghost use mathlib.Core.List.{[], _∷_};
+ghost use lib.ListN.{length};
+ghost use Rattle.meaning.specs.Settings.{cube, widthFits};
 ghost use Rattle.meaning.specs.Calls.{validReply, sameReply, sameList, valueReply, sumNumber, sumLeft, reduceNumber, reduceLeft};
-ghost use Rattle.demand3.specs.Settings.{ValuePasses, ValidPasses, SumPasses, ReducePasses};
+ghost use Rattle.demand3.specs.Settings.{CallPasses};
 ghost use Rattle.demand3.specs.Promises.{Valued, Judged, Summed, Reduced};
 ghost use Rattle.answers.specs.Said.{said, saidNumber, saidTruth};
 ghost use Rattle.settings.specs.Forms.{cubeForm};
@@ -19,7 +22,8 @@ use answers::Truth;
 // one coefficient for each cell. Nothing is altered.
 pub fn is_valid(coeffs: &[u64], support: &[u64], total: u32, bitwidth: u32, max_degree: u8) -> Truth
     ensures says { λ r. ⌜ saidTruth r ≡ validReply total bitwidth (now (support .entry)) (cube (now (support .entry)) «max_degree») (now (coeffs .entry)) ⌝ }
-    ensures judges { λ r. ⌜ Judged (ValidPasses total (now (support .entry)) (cube (now (support .entry)) «max_degree») (now (coeffs .entry)))
+    ensures judges { λ r. ⌜ Judged (CallPasses 65536 false total true (now (support .entry)) (cube (now (support .entry)) «max_degree»)
+        (λ n. (now (coeffs .entry), n) ∷ []))
         bitwidth (cube (now (support .entry)) «max_degree») (now (coeffs .entry)) (saidTruth r) ⌝ }
 {
     match settings::check_within(
@@ -60,7 +64,8 @@ pub fn value(
 ) -> Number
     ensures says { λ r. ⌜ said r ≡ valueReply total bitwidth (now (support .entry)) (cube (now (support .entry)) «max_degree») (now (coeffs .entry))
         (now (point .entry)) ⌝ }
-    ensures values { λ r. ⌜ Valued (ValuePasses total bitwidth (now (support .entry)) (cube (now (support .entry)) «max_degree») (now (coeffs .entry)) (now (point .entry)))
+    ensures values { λ r. ⌜ Valued (CallPasses 65536 false total (widthFits bitwidth) (now (support .entry)) (cube (now (support .entry)) «max_degree»)
+        (λ n. (now (coeffs .entry), n) ∷ (now (point .entry), length (now (support .entry))) ∷ []))
         bitwidth (cube (now (support .entry)) «max_degree») (now (coeffs .entry)) (now (point .entry)) (said r) ⌝ }
 {
     match settings::check(false, support, total, bitwidth, max_degree) {
@@ -94,8 +99,9 @@ pub fn sum(
         (now (b .entry)) (now (out .entry)) ⌝ }
     ensures leaves { λ r. ⌜ now (out .exit) ≡ sumLeft total bitwidth (now (support .entry)) (cube (now (support .entry)) «max_degree»)
         (now (a .entry)) (now (b .entry)) (now (out .entry)) ⌝ }
-    ensures sums { λ r. ⌜ Summed (SumPasses total bitwidth (now (support .entry)) (cube (now (support .entry)) «max_degree») (now (a .entry)) (now (b .entry))
-        (now (out .entry))) bitwidth (cube (now (support .entry)) «max_degree») (now (a .entry)) (now (b .entry)) (saidNumber r) (now (out .exit)) ⌝ }
+    ensures sums { λ r. ⌜ Summed (CallPasses 65536 false total (widthFits bitwidth) (now (support .entry)) (cube (now (support .entry)) «max_degree»)
+        (λ n. (now (a .entry), n) ∷ (now (b .entry), n) ∷ (now (out .entry), n) ∷ []))
+        bitwidth (cube (now (support .entry)) «max_degree») (now (a .entry)) (now (b .entry)) (saidNumber r) (now (out .exit)) ⌝ }
 {
     match settings::check(false, support, total, bitwidth, max_degree) {
         Number::Refused(refusal) => Outcome::Refused(refusal),
@@ -192,7 +198,8 @@ pub fn reduce(
     ensures says { λ r. ⌜ saidNumber r ≡ reduceNumber total bitwidth (now (support .entry)) (cube (now (support .entry)) «max_degree») (now (coeffs .entry)) ⌝ }
     ensures leaves { λ r. ⌜ now (coeffs .exit) ≡ reduceLeft total bitwidth (now (support .entry)) (cube (now (support .entry)) «max_degree»)
         (now (coeffs .entry)) ⌝ }
-    ensures reduces { λ r. ⌜ Reduced (ReducePasses total bitwidth (now (support .entry)) (cube (now (support .entry)) «max_degree») (now (coeffs .entry)))
+    ensures reduces { λ r. ⌜ Reduced (CallPasses 65536 false total (widthFits bitwidth) (now (support .entry)) (cube (now (support .entry)) «max_degree»)
+        (λ n. (now (coeffs .entry), n) ∷ []))
         bitwidth (cube (now (support .entry)) «max_degree») (now (coeffs .entry)) (saidNumber r) (now (coeffs .exit)) ⌝ }
 {
     match settings::check(false, support, total, bitwidth, max_degree) {

@@ -1,10 +1,11 @@
 // Normal forms of polynomials given by their coefficients of powers.
 ghost use mathlib.Core.Path.{_≡_};
 ghost use mathlib.Core.Bool.{false};
-ghost use Rattle.meaning.specs.Settings.{cube};
+ghost use mathlib.Core.List.{[], _∷_};
+ghost use Rattle.meaning.specs.Settings.{cube, widthFits};
 ghost use Rattle.meaning.specs.Conversions.{normalBox};
 ghost use Rattle.meaning.specs.Calls.{inOutNumber, convertLeft};
-ghost use Rattle.demand3.specs.Settings.{ConvertPasses};
+ghost use Rattle.demand3.specs.Settings.{CallPasses};
 ghost use Rattle.demand3.specs.Promises.{Normalised};
 ghost use Rattle.answers.specs.Said.{saidNumber};
 use answers::Outcome;
@@ -26,8 +27,8 @@ pub fn normalize_polynomial(
     ensures leaves { λ r. ⌜ now (out .exit) ≡ convertLeft total bitwidth (now (support .entry)) (cube (now (support .entry)) «max_degree»)
         (now (coeffs .entry)) (now (out .entry))
         (normalBox bitwidth (cube (now (support .entry)) «max_degree») (now (coeffs .entry))) ⌝ }
-    ensures normalises { λ r. ⌜ Normalised (ConvertPasses total bitwidth (now (support .entry)) (cube (now (support .entry)) «max_degree»)
-        (now (coeffs .entry)) (now (out .entry)))
+    ensures normalises { λ r. ⌜ Normalised (CallPasses 65536 false total (widthFits bitwidth) (now (support .entry)) (cube (now (support .entry)) «max_degree»)
+        (λ n. (now (coeffs .entry), n) ∷ (now (out .entry), n) ∷ []))
         bitwidth (cube (now (support .entry)) «max_degree») (now (coeffs .entry)) (saidNumber r) (now (out .exit)) ⌝ }
 {
     match basis_transform::to_factorial_basis(coeffs, support, total, bitwidth, max_degree, out) {

@@ -12,4 +12,4 @@ level-of-recovered-spec =
     (λ c. search needs)
     (λ c.
     let recovered = c .before .before .before .before in
-    level-follows (recovered .recover .ensures .1 .1) (c .value .ensures .1) (search needs)))
+    level-follows _ (recovered .recover .ensures .1 .1) (c .value .ensures .1) (search needs)))

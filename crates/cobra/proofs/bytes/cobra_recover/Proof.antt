@@ -2,7 +2,7 @@
 use borrow.Author.Needs.{needs}
 use mathlib.Core.Path.{_∙_}
 use Rattle.demand3.specs.Also.{also₂}
-use Rattle.byte_calls.specs.Passing.{bytes-decide}
+use Rattle.byte_calls.specs.BytePromises.{bytes-decide}
 use Rattle.cobra.proofs.bytes.cobra_recover.Statement.{statement}
 use Rattle.cobra.proofs.bytes.cobra_recover.Tie as tie
 

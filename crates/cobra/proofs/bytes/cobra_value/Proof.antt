@@ -2,7 +2,7 @@
 use borrow.Author.Needs.{needs}
 use mathlib.Core.Path.{_∙_}
 use Rattle.demand3.specs.Also.{also}
-use Rattle.byte_calls.specs.Passing.{bytes-valued}
+use Rattle.byte_calls.specs.BytePromises.{bytes-valued}
 use Rattle.cobra.proofs.bytes.cobra_value.Statement.{statement}
 use Rattle.cobra.proofs.bytes.cobra_value.Tie as tie
 
