@@ -3,3 +3,4 @@
 mod bytes;
 mod forms;
 mod grids;
+mod rooms;

@@ -6,4 +6,5 @@ pub mod bytes;
 pub mod fit;
 pub mod keys;
 pub mod leaves;
+pub mod rooms;
 pub mod systems;

@@ -18,7 +18,7 @@ use Rattle.answers.specs.declared.Refusal.{Refusal}
 use Rattle.answers.specs.Said.{code}
 use Rattle.answers.specs.Laws.{code-suc, first-code}
 use Rattle.settings.specs.Causes.{settings-cells-le}
-use Rattle.weighted_poly_fit.specs.Sizes.{fitSettings}
+use Rattle.weighted_poly_fit.specs.Sizes.{fitSettings, fitRoomTold}
 use Rattle.weighted_poly_fit.specs.Costs.{Distinct, distinct-none, distinct-more, FitCosts}
 use Rattle.weighted_poly_fit.proofs.ColumnCount.{columns-le-cells}
 
@@ -70,12 +70,12 @@ module _ (f : Fit) where
     pub column-count : c ≡ length (fitColumns f)
     pub entry-count : e ≡ entries
 
-  pub told-counts : {r c e : ℕ} → record { number = 0; row-count = r; column-count = c; entry-count = e } ≡ fitRoom f → Told r c e
+  pub told-counts : {r c e : ℕ} → fitRoomTold 0 r c e ≡ fitRoom f → Told r c e
   unfolding fitRoom
   told-counts {r} {c} {e} q = go (fitSettingsNumber f) refl q
     where
       go : (n : ℕ) → fitSettingsNumber f ≡ n
-          → record { number = 0; row-count = r; column-count = c; entry-count = e } ≡ fitRoomOf n (fitRows f) (length (fitColumns f)) → Told r c e
+          → fitRoomTold 0 r c e ≡ fitRoomOf n (fitRows f) (length (fitColumns f)) → Told r c e
       go zero p h =
           record {
             passes = p;

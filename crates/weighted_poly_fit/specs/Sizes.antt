@@ -13,9 +13,13 @@ use Rattle.weighted_poly_fit.specs.declared.sizes.FitRoom as answer
 abbrev pub fitSettings : ℕ → ℕ → List ℕ → ℕ → ℕ → Fit
 fitSettings total w support max-degree grid-degree = fitOf total w support max-degree grid-degree [] [] [] [] []
 
+-- a returned number and stored counts
+abbrev pub fitRoomTold : ℕ → ℕ → ℕ → ℕ → FitRoom
+fitRoomTold n r c e = record { number = n; row-count = r; column-count = c; entry-count = e }
+
 -- the number and the counts that an answer says
 abbrev pub fitRoomSaid : answer.FitRoom → FitRoom
-fitRoomSaid (answer.FitRoom.Counts r c e) = record { number = 0; row-count = r; column-count = c; entry-count = e }
+fitRoomSaid (answer.FitRoom.Counts r c e) = fitRoomTold 0 r c e
 fitRoomSaid (answer.FitRoom.Refused r) = fitRoomOf (code r) 0 0
 
 -- the number of columns

@@ -1,0 +1,2 @@
+-- What several calls say together.
+pub mod Rooms
