@@ -1,4 +1,4 @@
--- The first return is never taken: no table is as long as such a stride. The loop: the blocks before `from` are transformed, the others as they were.
+-- The loop: the blocks before `from` are transformed, the others as they were.
 -- The block size divides the length, so that nothing is left where no further block fits.
 use borrow.Author.Needs.{needs}
 use mathlib.Core.Path.{_≡_, _∙_}
@@ -21,7 +21,7 @@ abbrev μ-loop : tie.MeasureT-loop
 
 -- the loop's start, and that the transform only reads its line
 abbrev start : tie.At-loop Inv-loop μ-loop → tie.Start Inv-loop μ-loop
-start l = l .before .before .before
+start l = l .before .before
 
 local : (s : tie.Start Inv-loop μ-loop) → Local (lineOf (s .args .transform) (2 ^ 64))
 local s = lineOf-local (s .args .transform) (2 ^ 64)
@@ -32,9 +32,8 @@ transform-variable-spec =
     (tie.spec
     Inv-loop
     μ-loop
-    (λ c. absurd (omega arith))
     (λ c. search needs) (λ c. search needs)
-    (λ c. blocks-start _ (local (c .before .before)) _ _ _)
+    (λ c. blocks-start _ (local (c .before)) _ _ _)
     (λ c. search needs) (λ c. search needs) (λ c. search needs) (λ c. search needs) (λ c. search needs) (λ c. search needs)
     (λ c κs.
     let l = c .before .before in
