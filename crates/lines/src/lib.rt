@@ -56,6 +56,17 @@ fn transform_block(transform: Transform, part: &mut [u64], stride: usize, degree
     }
 }
 
+// Whether a transform leaves lines of a degree as they are: a conversion those of degree 0 and 1.
+fn leaves_lines(transform: Transform, degree: u8) -> bool
+    ensures { λ r. ⌜ (r ≡ true → (degree ≤ 1) × ((transform ≡ Transform.ToFalling) ⊎ (transform ≡ Transform.ToPowers))) ⌝ }
+{
+    match transform {
+        Transform::Differences => false,
+        Transform::ToFalling => degree < 2,
+        Transform::ToPowers => degree < 2,
+    }
+}
+
 // Every block of a table, along the variable with the given stride and degree. The result is the next variable's stride.
 fn transform_variable(transform: Transform, table: &mut [u64], stride: usize, degree: u8) -> usize
     requires { ⌜ (0 < stride) × (stride * suc degree ≤ length (now table)) × (length (now table) % (stride * suc degree) ≡ 0) ⌝ }
@@ -63,6 +74,9 @@ fn transform_variable(transform: Transform, table: &mut [u64], stride: usize, de
     ensures leaves { λ r. ⌜ now (table .exit) ≡ tabulate (length (now (table .entry))) (blocked (lineOf transform (2 ^ 64)) stride degree (at (now (table .entry)))) ⌝ }
 {
     let size = stride * (degree as usize + 1);
+    if leaves_lines(transform, degree) {
+        return size;
+    }
     let mut from = 0;
     while size <= table.len() - from {
         let end = from + size;
