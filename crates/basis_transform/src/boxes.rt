@@ -20,5 +20,7 @@ pub(crate) fn convert_box(
 {
     tables::copy(coefficients, out);
     lines::transform_all(transform, out, degrees);
-    tables::cut(out, bitwidth);
+    if bitwidth < 64 {
+        tables::cut(out, bitwidth);
+    }
 }

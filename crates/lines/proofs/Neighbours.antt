@@ -8,10 +8,12 @@ use native.Mathlib.Nat.{eq-or-lt-of-le, le-of-suc-le-suc, add-zero, one-mul, mul
 use native.Mathlib.Omega.{arith}
 use lib.Arith.{digits-mod}
 use lib.ListN.{length, set, length-set}
+use lib.Seq.{getD-set-other}
 use Rattle.meaning.specs.Tables.{tabulate, at}
 use Rattle.meaning.specs.Differences.{minus, diff, diffs, newton}
 use Rattle.theory.specs.Tables.{Filled, filled-start, filled-step, filled-done}
 use Rattle.lines.specs.FlatTables.{Line, lined, blocked, blocked-eq-lined}
+use Rattle.lines.proofs.FourTerms.{Four}
 
 -- number x of line c
 first-at : (line : Line) (d : ℕ) (f : ℕ → ℕ) (c x : ℕ) → x ≤ d → blocked line 1 d f (c * suc d + x) ≡ line d (λ y. f (c * suc d + y)) x
@@ -30,66 +32,68 @@ filled-keep f t₀ t k r e = record { same = r .same; below = λ i p. go i (eq-o
     go i (inr q) = r .below i q
 
 -- the lines before place i are done
-pub record Neighbours (d : ℕ) (t₀ t : List ℕ) (i : ℕ) : Type 0 where
+pub record Neighbours (line : Line) (d : ℕ) (t₀ t : List ℕ) (i : ℕ) : Type 0 where
   pub count : ℕ
   pub place : i ≡ count * suc d
-  pub filled : Filled (blocked (newton (2 ^ 64)) 1 d (at t₀)) t₀ t i
+  pub filled : Filled (blocked line 1 d (at t₀)) t₀ t i
 
-module _ (d : ℕ) (t₀ : List ℕ) where
-  pub neighbours-start : Neighbours d t₀ t₀ 0
+module _ (line : Line) (d : ℕ) (t₀ : List ℕ) where
+  pub neighbours-start : Neighbours line d t₀ t₀ 0
   neighbours-start = record { count = 0; place = omega arith; filled = filled-start _ t₀ }
 
-  module _ (t : List ℕ) (i : ℕ) (r : Neighbours d t₀ t i) where
-    -- number x of it after the differences
-    pub number : (x : ℕ) → x ≤ d → newton (2 ^ 64) d (λ y. at t (i + y)) x ≡ blocked (newton (2 ^ 64)) 1 d (at t₀) (i + x)
+  module _ (t : List ℕ) (i : ℕ) (r : Neighbours line d t₀ t i) where
+    -- number x of it after the transform
+    pub number : (x : ℕ) → x ≤ d → line d (λ y. at t (i + y)) x ≡ blocked line 1 d (at t₀) (i + x)
     number x h =
-        ap (λ (v : ℕ → ℕ). newton (2 ^ 64) d v x) (fun-ext λ y. r .filled .above (i + y) (omega arith) ∙ ap (λ (n : ℕ). at t₀ (n + y)) (r .place))
-        ∙ sym (first-at (newton (2 ^ 64)) d (at t₀) (r .count) x h)
-        ∙ ap (λ (n : ℕ). blocked (newton (2 ^ 64)) 1 d (at t₀) (n + x)) (sym (r .place))
+        ap (λ (v : ℕ → ℕ). line d v x) (fun-ext λ y. r .filled .above (i + y) (omega arith) ∙ ap (λ (n : ℕ). at t₀ (n + y)) (r .place))
+        ∙ sym (first-at line d (at t₀) (r .count) x h)
+        ∙ ap (λ (n : ℕ). blocked line 1 d (at t₀) (n + x)) (sym (r .place))
 
-    -- the first number of a line stays
-    pub first-kept : Filled (blocked (newton (2 ^ 64)) 1 d (at t₀)) t₀ t (i + 1)
-    unfolding newton diffs
-    first-kept = filled-keep _ t₀ t i (r .filled) (rw (add-zero i) at (number 0 zero-le))
+    -- a first number that the transform leaves
+    pub first-kept : line d (λ y. at t (i + y)) 0 ≡ at t (i + 0) → Filled (blocked line 1 d (at t₀)) t₀ t (i + 1)
+    first-kept e = filled-keep _ t₀ t i (r .filled) (rw (add-zero i) at (sym e ∙ number 0 zero-le))
 
     -- the line is done
-    pub neighbours-step : (t′ : List ℕ) → Filled (blocked (newton (2 ^ 64)) 1 d (at t₀)) t₀ t′ (i + suc d) → Neighbours d t₀ t′ (i + suc d)
+    pub neighbours-step : (t′ : List ℕ) → Filled (blocked line 1 d (at t₀)) t₀ t′ (i + suc d) → Neighbours line d t₀ t′ (i + suc d)
     neighbours-step t′ all = record { count = suc (r .count); place = omega (arith, r .place); filled = all }
 
     -- no further line fits: nothing is left
-    pub neighbours-done : i ≤ length t → length t₀ % suc d ≡ 0 → length t < i + suc d → t ≡ tabulate (length t₀) (blocked (newton (2 ^ 64)) 1 d (at t₀))
+    pub neighbours-done : i ≤ length t → length t₀ % suc d ≡ 0 → length t < i + suc d → t ≡ tabulate (length t₀) (blocked line 1 d (at t₀))
     neighbours-done within whole h =
         let e : length t₀ ≡ r .count * suc d + (length t - i) = omega (arith, r .place, within, r .filled .same) in
         let small : length t - i < suc d = omega arith in
         let z : length t - i ≡ 0 = sym (digits-mod (r .count) small) ∙ ap (_% suc d) (sym e) ∙ whole in
         filled-done _ t₀ t i (r .filled) (omega (arith, r .filled .same))
 
--- ---- degree 1
+-- ---- differences of degree 1
 
-module _ (t₀ t : List ℕ) (i : ℕ) (r : Neighbours 1 t₀ t i) where
-  pub twos-step : (v : ℕ) → i + 1 < length t → v ≡ minus (2 ^ 64) (at t (i + 1)) (at t i) → Neighbours 1 t₀ (set t (i + 1) v) (i + 2)
+abbrev pub newtonLine : Line
+newtonLine = newton (2 ^ 64)
+
+module _ (t₀ t : List ℕ) (i : ℕ) (r : Neighbours newtonLine 1 t₀ t i) where
+  pub twos-step : (v : ℕ) → i + 1 < length t → v ≡ minus (2 ^ 64) (at t (i + 1)) (at t i) → Neighbours newtonLine 1 t₀ (set t (i + 1) v) (i + 2)
   unfolding newton diffs diff
   twos-step v h e =
-      neighbours-step 1 t₀ t i r (set t (i + 1) v)
-      (rw two at (filled-step _ t₀ t (i + 1) v (first-kept 1 t₀ t i r) h
-      (e ∙ ap (λ (j : ℕ). minus (2 ^ 64) (at t (i + 1)) (at t j)) (sym (add-zero i)) ∙ number 1 t₀ t i r 1 (le-refl 1))))
+      neighbours-step newtonLine 1 t₀ t i r (set t (i + 1) v)
+      (rw two at (filled-step _ t₀ t (i + 1) v (first-kept newtonLine 1 t₀ t i r refl) h
+      (e ∙ ap (λ (j : ℕ). minus (2 ^ 64) (at t (i + 1)) (at t j)) (sym (add-zero i)) ∙ number newtonLine 1 t₀ t i r 1 (le-refl 1))))
     where
       two : i + 1 + 1 ≡ i + 2
       two = omega arith
 
--- ---- degree 3
+-- ---- differences of degree 3
 
-module _ (t₀ t : List ℕ) (i : ℕ) (r : Neighbours 3 t₀ t i) where
+module _ (t₀ t : List ℕ) (i : ℕ) (r : Neighbours newtonLine 3 t₀ t i) where
   -- the first differences
   abbrev step : ℕ → ℕ
   step x = minus (2 ^ 64) (at t (i + suc x)) (at t (i + x))
 
   pub fours-step : (a b v : ℕ) → i + 3 < length t → a ≡ step 0 → b ≡ minus (2 ^ 64) (step 1) (step 0)
       → v ≡ minus (2 ^ 64) (minus (2 ^ 64) (step 2) (step 1)) (minus (2 ^ 64) (step 1) (step 0))
-      → Neighbours 3 t₀ (set (set (set t (i + 1) a) (i + 2) b) (i + 3) v) (i + 4)
+      → Neighbours newtonLine 3 t₀ (set (set (set t (i + 1) a) (i + 2) b) (i + 3) v) (i + 4)
   unfolding newton diffs diff
   fours-step a b v h e₁ e₂ e₃ =
-      neighbours-step 3 t₀ t i r _ (rw four at (filled-step _ t₀ _ (i + 3) v third (simp length-set h) (e₃ ∙ number 3 t₀ t i r 3 (omega arith))))
+      neighbours-step newtonLine 3 t₀ t i r _ (rw four at (filled-step _ t₀ _ (i + 3) v third (simp length-set h) (e₃ ∙ number newtonLine 3 t₀ t i r 3 (omega arith))))
     where
       two : i + 1 + 1 ≡ i + 2
       two = omega arith
@@ -100,8 +104,43 @@ module _ (t₀ t : List ℕ) (i : ℕ) (r : Neighbours 3 t₀ t i) where
       four : i + 3 + 1 ≡ i + 4
       four = omega arith
 
-      second : Filled (blocked (newton (2 ^ 64)) 1 3 (at t₀)) t₀ (set t (i + 1) a) (i + 2)
-      second = rw two at (filled-step _ t₀ t (i + 1) a (first-kept 3 t₀ t i r) (omega arith) (e₁ ∙ number 3 t₀ t i r 1 (omega arith)))
+      second : Filled (blocked newtonLine 1 3 (at t₀)) t₀ (set t (i + 1) a) (i + 2)
+      second = rw two at (filled-step _ t₀ t (i + 1) a (first-kept newtonLine 3 t₀ t i r refl) (omega arith) (e₁ ∙ number newtonLine 3 t₀ t i r 1 (omega arith)))
 
-      third : Filled (blocked (newton (2 ^ 64)) 1 3 (at t₀)) t₀ (set (set t (i + 1) a) (i + 2) b) (i + 3)
-      third = rw three at (filled-step _ t₀ _ (i + 2) b second (simp length-set (omega arith)) (e₂ ∙ number 3 t₀ t i r 2 (omega arith)))
+      third : Filled (blocked newtonLine 1 3 (at t₀)) t₀ (set (set t (i + 1) a) (i + 2) b) (i + 3)
+      third = rw three at (filled-step _ t₀ _ (i + 2) b second (simp length-set (omega arith)) (e₂ ∙ number newtonLine 3 t₀ t i r 2 (omega arith)))
+
+-- ---- conversions of degree 3
+
+module _ (line : Line) (t₀ t : List ℕ) (i : ℕ) (r : Neighbours line 3 t₀ t i) where
+  pub inner-step : (a b : ℕ) → i + 3 < length t → Four line (λ y. at t (i + y)) a b → Neighbours line 3 t₀ (set (set t (i + 1) a) (i + 2) b) (i + 4)
+  inner-step a b h four = neighbours-step line 3 t₀ t i r after (rw four-places at (filled-keep _ t₀ after (i + 3) third last))
+    where
+      after : List ℕ
+      after = set (set t (i + 1) a) (i + 2) b
+
+      two : i + 1 + 1 ≡ i + 2
+      two = omega arith
+
+      three : i + 2 + 1 ≡ i + 3
+      three = omega arith
+
+      four-places : i + 3 + 1 ≡ i + 4
+      four-places = omega arith
+
+      second : Filled (blocked line 1 3 (at t₀)) t₀ (set t (i + 1) a) (i + 2)
+      second =
+          rw two at
+          (filled-step _ t₀ t (i + 1) a (first-kept line 3 t₀ t i r (four .first)) (omega arith) (sym (four .second) ∙ number line 3 t₀ t i r 1 (omega arith)))
+
+      third : Filled (blocked line 1 3 (at t₀)) t₀ after (i + 3)
+      third =
+          rw three at
+          (filled-step _ t₀ (set t (i + 1) a) (i + 2) b second (simp length-set (omega arith)) (sym (four .third) ∙ number line 3 t₀ t i r 2 (omega arith)))
+
+      last : at after (i + 3) ≡ blocked line 1 3 (at t₀) (i + 3)
+      last =
+          getD-set-other (set t (i + 1) a) (i + 2) (i + 3) b 0 (omega arith)
+          ∙ getD-set-other t (i + 1) (i + 3) a 0 (omega arith)
+          ∙ sym (four .last)
+          ∙ number line 3 t₀ t i r 3 (omega arith)

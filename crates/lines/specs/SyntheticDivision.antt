@@ -95,12 +95,12 @@ divided m k d c j = quotientLine (min k j) d c j % m
 
 module _ (m d : ℕ) (c : ℕ → ℕ) where
   -- nothing is done
-  divided-start : (j : ℕ) → j ≤ d → divided m 0 d c j ≡ c j % m
+  pub divided-start : (j : ℕ) → j ≤ d → divided m 0 d c j ≡ c j % m
   unfolding divided
   divided-start j h = rw (zero-min, quotient-start d c j h)
 
   -- a pass from index k + 1 on
-  divided-step : (k j : ℕ) → suc k ≤ j → j ≤ d → divided m (suc k) d c j ≡ (divided m k d c j + suc k * divided m (suc k) d c (suc j)) % m
+  pub divided-step : (k j : ℕ) → suc k ≤ j → j ≤ d → divided m (suc k) d c j ≡ (divided m k d c j + suc k * divided m (suc k) d c (suc j)) % m
   unfolding divided
   divided-step k j p h =
       rw (
@@ -112,12 +112,12 @@ module _ (m d : ℕ) (c : ℕ → ℕ) where
       (cong-add (cong-sym (mod-cong m (quotientLine k d c j))) (cong-mul-left (suc k) (cong-sym (mod-cong m (quotientLine (suc k) d c (suc j))))) .same)
 
   -- below it nothing changes
-  divided-keep : (k j : ℕ) → j ≤ k → divided m (suc k) d c j ≡ divided m k d c j
+  pub divided-keep : (k j : ℕ) → j ≤ k → divided m (suc k) d c j ≡ divided m k d c j
   unfolding divided
   divided-keep k j p = rw (min-eq-right {n = j} {m = k} p, min-eq-right {n = j} {m = suc k} (omega arith))
 
   -- nor at the highest index
-  divided-top : (k j : ℕ) → j ≡ d → divided m (suc k) d c j ≡ divided m k d c j
+  pub divided-top : (k j : ℕ) → j ≡ d → divided m (suc k) d c j ≡ divided m k d c j
   unfolding divided
   divided-top k j e = go (decLe j k)
     where
@@ -129,7 +129,7 @@ module _ (m d : ℕ) (c : ℕ → ℕ) where
           (ap (_% m) (quotient-step k d c j (le-of-eq e) ∙ omega (arith, ap (suc k *_) (quotient-zero (suc k) d c (suc j) (omega arith)))))
 
   -- all is done after d - 1 passes
-  divided-done : (k j : ℕ) → j ≤ d → d ≤ suc k → divided m k d c j ≡ fallingLine m d c j
+  pub divided-done : (k j : ℕ) → j ≤ d → d ≤ suc k → divided m k d c j ≡ fallingLine m d c j
   unfolding divided fallingLine
   divided-done k j h l = go (decLe j k)
     where
@@ -140,7 +140,7 @@ module _ (m d : ℕ) (c : ℕ → ℕ) where
           ∙ (rw (min-eq-right {n = j} {m = suc k} (omega arith), quotient-done d c j h))
 
   -- a pass is undone
-  divided-undo : (k j : ℕ) → 0 < m → suc k ≤ j → j ≤ d → divided m k d c j ≡ minus m (divided m (suc k) d c j) (suc k * divided m (suc k) d c (suc j))
+  pub divided-undo : (k j : ℕ) → 0 < m → suc k ≤ j → j ≤ d → divided m k d c j ≡ minus m (divided m (suc k) d c j) (suc k * divided m (suc k) d c (suc j))
   unfolding divided
   divided-undo k j pos p h =
       eq-of-cong (mod-lt _ pos) (minus-lt _ _ pos)
@@ -162,7 +162,7 @@ line-le {s} {d} i pos h = le-of-suc-le-suc (index-lt s pos (suc d) i h)
 
 module _ (m s d : ℕ) (f : ℕ → ℕ) (pos : 0 < s) (k i : ℕ) where
   -- one number of a pass, and of a pass back
-  lined-divided : s * suc k ≤ i → i < s * suc d →
+  pub lined-divided : s * suc k ≤ i → i < s * suc d →
       lined (divided m (suc k)) s d f i ≡ (lined (divided m k) s d f i + suc k * lined (divided m (suc k)) s d f (i + s)) % m
   unfolding lined
   lined-divided p q =
@@ -177,11 +177,11 @@ module _ (m s d : ℕ) (f : ℕ → ℕ) (pos : 0 < s) (k i : ℕ) where
       ∙ ap (λ x. minus m (lined (divided m (suc k)) s d f i) (suc k * x)) (sym (lined-add s pos (divided m (suc k)) d f i))
 
   -- the numbers of the highest index stay, and so do those below index k + 1
-  lined-top : s * d ≤ i → i < s * suc d → lined (divided m k) s d f i ≡ lined (divided m (suc k)) s d f i
+  pub lined-top : s * d ≤ i → i < s * suc d → lined (divided m k) s d f i ≡ lined (divided m (suc k)) s d f i
   unfolding lined
   lined-top p q = sym (divided-top m d _ k (i / s) (le-antisymm (line-le i pos q) (index-le s pos d i p)))
 
-  lined-keep : i < s * suc k → lined (divided m k) s d f i ≡ lined (divided m (suc k)) s d f i
+  pub lined-keep : i < s * suc k → lined (divided m k) s d f i ≡ lined (divided m (suc k)) s d f i
   unfolding lined
   lined-keep p = sym (divided-keep m d _ k (i / s) (le-of-suc-le-suc (index-lt s pos (suc k) i p)))
 

@@ -147,6 +147,10 @@ pub(crate) fn difference_block(part: &mut [u64], stride: usize, d: u8)
     requires { ⌜ (0 < stride) × (length (now part) ≡ stride * suc d) ⌝ }
     ensures { λ r. ⌜ now (part .exit) ≡ tabulate (length (now (part .entry))) (lined (newton (2 ^ 64)) stride d (at (now (part .entry)))) ⌝ }
 {
+    // Never so: said for the compiler, which then knows that a stride is not negative.
+    if 0x1000_0000_0000_0000 <= stride {
+        return;
+    }
     if stride == 1 {
         difference_line(part);
         return;

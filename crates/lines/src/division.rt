@@ -1,14 +1,16 @@
-// Both conversions of the lines of a block, in place and modulo 2^64, by repeated synthetic division.
+// Both conversions of the lines of a block, in place and modulo 2^64, by repeated synthetic division. A block goes by a function that the compiler does not
+// move into its caller, so that differences do not pay for it: it calls itself where the stride is 0, which it never is.
 ghost use mathlib.Core.Path.{_≡_};
-ghost use Prim.Native.Nat.{ℕ, suc, _*_, _^_, _<_};
+ghost use Prim.Native.Nat.{ℕ, suc, _+_, _*_, _^_, _<_};
 ghost use lib.ListN.{length};
 ghost use Rattle.meaning.specs.Tables.{tabulate, at};
 ghost use Rattle.meaning.specs.Stirling.{fallingLine, powerLine};
 ghost use Rattle.lines.specs.FlatTables.{lined};
 ghost use Rattle.lines.specs.SyntheticDivision.{Divided};
+use crate::fours;
 
 // Pass `done + 1` over a block, towards falling factorials: every coefficient from index `done + 1` on, the highest first, gets `done + 1` times
-// the next one added.
+// the next one added. Two a turn.
 fn divide(part: &mut [u64], stride: usize, degree: usize, done: usize)
     requires { ⌜ (0 < stride) × (done < degree) × (length (now part) ≡ stride * suc degree) ⌝ }
     ensures { λ r. ⌜ ((f : ℕ → ℕ)
@@ -18,7 +20,19 @@ fn divide(part: &mut [u64], stride: usize, degree: usize, done: usize)
     let factor = done as u64 + 1;
     let end = stride * (done + 1);
     let mut i = part.len() - stride;
-    while end < i {
+    while end + 1 < i {
+        i -= 1;
+        part[i] = std::num::wrapping_add_u64(
+            part[i],
+            arith::wrapping_mul(factor, part[i + stride]),
+        );
+        i -= 1;
+        part[i] = std::num::wrapping_add_u64(
+            part[i],
+            arith::wrapping_mul(factor, part[i + stride]),
+        );
+    }
+    if end < i {
         i -= 1;
         part[i] = std::num::wrapping_add_u64(
             part[i],
@@ -27,7 +41,29 @@ fn divide(part: &mut [u64], stride: usize, degree: usize, done: usize)
     }
 }
 
-// The same pass undone: every coefficient from index `done + 1` on, the lowest first, gets `done + 1` times the next one subtracted.
+// Two passes at once over a single line, from the highest coefficient down: of the one before, `one` is what it has after the first of them, and `two`
+// after both. The lowest that is reached gets the first pass alone.
+fn divide_twice(part: &mut [u64], done: usize)
+    requires { ⌜ done + 2 < length (now part) ⌝ }
+    ensures { λ r. ⌜ ((d : ℕ) (f : ℕ → ℕ) → length (now (part .entry)) ≡ suc d
+        → Divided (2 ^ 64) 1 d f (length (now (part .entry))) done (now (part .entry))
+        → Divided (2 ^ 64) 1 d f (length (now (part .entry))) (suc (suc done)) (now (part .exit))) ⌝ }
+{
+    let factor = done as u64 + 1;
+    let next = done as u64 + 2;
+    let mut i = part.len() - 1;
+    let mut one = part[i];
+    let mut two = part[i];
+    while done + 2 < i {
+        i -= 1;
+        one = std::num::wrapping_add_u64(part[i], arith::wrapping_mul(factor, one));
+        two = std::num::wrapping_add_u64(one, arith::wrapping_mul(next, two));
+        part[i] = two;
+    }
+    part[done + 1] = std::num::wrapping_add_u64(part[done + 1], arith::wrapping_mul(factor, one));
+}
+
+// The same pass undone: every coefficient from index `done + 1` on, the lowest first, gets `done + 1` times the next one subtracted. Two a turn.
 fn undivide(part: &mut [u64], stride: usize, degree: usize, done: usize)
     requires { ⌜ (0 < stride) × (done < degree) × (length (now part) ≡ stride * suc degree) ⌝ }
     ensures { λ r. ⌜ ((f : ℕ → ℕ)
@@ -35,16 +71,24 @@ fn undivide(part: &mut [u64], stride: usize, degree: usize, done: usize)
         → Divided (2 ^ 64) stride degree f (length (now (part .entry))) done (now (part .exit))) ⌝ }
 {
     let factor = done as u64 + 1;
-    let end = part.len() - stride;
+    let last = part.len() - stride - 1;
     let mut i = stride * (done + 1);
-    while i < end {
+    while i < last {
         part[i] = arith::wrapping_sub(part[i], arith::wrapping_mul(factor, part[i + stride]));
-        i += 1;
+        let next = i + 1;
+        part[next] = arith::wrapping_sub(
+            part[next],
+            arith::wrapping_mul(factor, part[next + stride]),
+        );
+        i += 2;
+    }
+    if i == last {
+        part[i] = arith::wrapping_sub(part[i], arith::wrapping_mul(factor, part[i + stride]));
     }
 }
 
 // All passes over a block, the first one first: its lines go from powers to falling factorials.
-pub(crate) fn divide_block(part: &mut [u64], stride: usize, degree: usize)
+fn divide_passes(part: &mut [u64], stride: usize, degree: usize)
     requires { ⌜ (0 < stride) × (length (now part) ≡ stride * suc degree) ⌝ }
     ensures { λ r. ⌜ now (part .exit) ≡ tabulate (length (now (part .entry))) (lined (fallingLine (2 ^ 64)) stride degree (at (now (part .entry)))) ⌝ }
 {
@@ -55,8 +99,45 @@ pub(crate) fn divide_block(part: &mut [u64], stride: usize, degree: usize)
     }
 }
 
+// The same of a single line, two passes at a time.
+fn divide_line(part: &mut [u64], degree: usize)
+    requires { ⌜ length (now part) ≡ suc degree ⌝ }
+    ensures { λ r. ⌜ now (part .exit) ≡ tabulate (length (now (part .entry))) (lined (fallingLine (2 ^ 64)) 1 degree (at (now (part .entry)))) ⌝ }
+{
+    let mut done = 0;
+    while done + 1 < degree {
+        divide_twice(part, done);
+        done += 2;
+    }
+}
+
+// The same, by what is fastest.
+pub(crate) fn divide_block(part: &mut [u64], stride: usize, degree: usize)
+    requires { ⌜ (0 < stride) × (length (now part) ≡ stride * suc degree) ⌝ }
+    ensures { λ r. ⌜ now (part .exit) ≡ tabulate (length (now (part .entry))) (lined (fallingLine (2 ^ 64)) stride degree (at (now (part .entry)))) ⌝ }
+{
+    if stride == 0 {
+        divide_block(part, stride, degree);
+        part[0] = 0;
+        return;
+    }
+    // Never so: said for the compiler, which then knows that a stride is not negative.
+    if 0x1000_0000_0000_0000 <= stride {
+        return;
+    }
+    if degree == 3 {
+        fours::falling_rows(part, stride);
+        return;
+    }
+    if stride == 1 {
+        divide_line(part, degree);
+        return;
+    }
+    divide_passes(part, stride, degree);
+}
+
 // All passes undone, the last one first: the lines go from falling factorials to powers.
-pub(crate) fn undivide_block(part: &mut [u64], stride: usize, degree: usize)
+fn undivide_passes(part: &mut [u64], stride: usize, degree: usize)
     requires { ⌜ (0 < stride) × (length (now part) ≡ stride * suc degree) ⌝ }
     ensures { λ r. ⌜ now (part .exit) ≡ tabulate (length (now (part .entry))) (lined (powerLine (2 ^ 64)) stride degree (at (now (part .entry)))) ⌝ }
 {
@@ -65,4 +146,21 @@ pub(crate) fn undivide_block(part: &mut [u64], stride: usize, degree: usize)
         done -= 1;
         undivide(part, stride, degree, done - 1);
     }
+}
+
+// The same, by what is fastest.
+pub(crate) fn undivide_block(part: &mut [u64], stride: usize, degree: usize)
+    requires { ⌜ (0 < stride) × (length (now part) ≡ stride * suc degree) ⌝ }
+    ensures { λ r. ⌜ now (part .exit) ≡ tabulate (length (now (part .entry))) (lined (powerLine (2 ^ 64)) stride degree (at (now (part .entry)))) ⌝ }
+{
+    if stride == 0 {
+        undivide_block(part, stride, degree);
+        part[0] = 0;
+        return;
+    }
+    if degree == 3 {
+        fours::powers_rows(part, stride);
+        return;
+    }
+    undivide_passes(part, stride, degree);
 }

@@ -14,6 +14,7 @@ ghost use Rattle.lines.specs.Transforms.{lineOf, transformed};
 mod differences;
 mod division;
 mod first;
+mod fours;
 
 // What is done to a line: Newton's differences at 0, or the coefficients of powers turned into those of falling factorials, or these turned back.
 pub enum Transform {
@@ -55,17 +56,27 @@ fn transform_block(transform: Transform, part: &mut [u64], stride: usize, degree
     }
 }
 
+// Whether a transform leaves lines of a degree as they are: a conversion those of degree 0 and 1.
+fn leaves_lines(transform: Transform, degree: u8) -> bool
+    ensures { λ r. ⌜ (r ≡ true → (degree ≤ 1) × ((transform ≡ Transform.ToFalling) ⊎ (transform ≡ Transform.ToPowers))) ⌝ }
+{
+    match transform {
+        Transform::Differences => false,
+        Transform::ToFalling => degree < 2,
+        Transform::ToPowers => degree < 2,
+    }
+}
+
 // Every block of a table, along the variable with the given stride and degree. The result is the next variable's stride.
 fn transform_variable(transform: Transform, table: &mut [u64], stride: usize, degree: u8) -> usize
     requires { ⌜ (0 < stride) × (stride * suc degree ≤ length (now table)) × (length (now table) % (stride * suc degree) ≡ 0) ⌝ }
     ensures stride { λ r. ⌜ r ≡ stride * suc degree ⌝ }
     ensures leaves { λ r. ⌜ now (table .exit) ≡ tabulate (length (now (table .entry))) (blocked (lineOf transform (2 ^ 64)) stride degree (at (now (table .entry)))) ⌝ }
 {
-    // Never so: said for the compiler, which then knows that a stride is not negative.
-    if 0x1000_0000_0000_0000 <= stride {
-        return 0;
-    }
     let size = stride * (degree as usize + 1);
+    if leaves_lines(transform, degree) {
+        return size;
+    }
     let mut from = 0;
     while size <= table.len() - from {
         let end = from + size;
@@ -95,19 +106,29 @@ fn transform_rest(
     }
 }
 
-// Whether the first variable has short lines, for which `first` has a way of its own.
+// Whether the first variable has short lines, for which there is a way of its own: degree 3, and for differences also 1.
 fn starts_short(transform: Transform, degrees: &[u8]) -> bool
-    ensures { λ r. ⌜ (r ≡ true → (transform ≡ Transform.Differences) × (0 < length (now (degrees .entry)))
-        × ((at (now (degrees .entry)) 0 ≡ 1) ⊎ (at (now (degrees .entry)) 0 ≡ 3))) ⌝ }
+    ensures { λ r. ⌜ (r ≡ true → (0 < length (now (degrees .entry)))
+        × ((at (now (degrees .entry)) 0 ≡ 3) ⊎ ((at (now (degrees .entry)) 0 ≡ 1) × (transform ≡ Transform.Differences)))) ⌝ }
+{
+    if degrees.len() == 0 {
+        return false;
+    }
+    match transform {
+        Transform::Differences => degrees[0] == 3 || degrees[0] == 1,
+        _ => degrees[0] == 3,
+    }
+}
+
+// A first variable of such a degree.
+fn transform_first(transform: Transform, table: &mut [u64], degree: u8)
+    requires { ⌜ ((degree ≡ 3) ⊎ ((degree ≡ 1) × (transform ≡ Transform.Differences))) × (length (now table) % suc degree ≡ 0) ⌝ }
+    ensures { λ r. ⌜ now (table .exit) ≡ tabulate (length (now (table .entry))) (blocked (lineOf transform (2 ^ 64)) 1 degree (at (now (table .entry)))) ⌝ }
 {
     match transform {
-        Transform::Differences => {
-            if degrees.len() == 0 {
-                return false;
-            }
-            degrees[0] == 1 || degrees[0] == 3
-        }
-        _ => false,
+        Transform::Differences => first::difference_first(table, degree),
+        Transform::ToFalling => fours::falling_neighbours(table),
+        Transform::ToPowers => fours::powers_neighbours(table),
     }
 }
 
@@ -121,7 +142,7 @@ pub fn transform_all(transform: Transform, table: &mut [u64], degrees: &[u8])
         return;
     }
     if starts_short(transform, degrees) {
-        first::difference_first(table, degrees[0]);
+        transform_first(transform, table, degrees[0]);
         transform_rest(transform, table, degrees, 1, degrees[0] as usize + 1);
         return;
     }

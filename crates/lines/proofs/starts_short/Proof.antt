@@ -1,4 +1,4 @@
--- Where the result is true, the transform is that of the differences and a test of the degree held.
+-- Where the result is true, there is a variable and a test of its degree held, that of degree 1 for differences alone.
 use borrow.Author.Needs.{needs}
 use borrow.Author.Tests.{eqb-true}
 use mathlib.Core.Bool.{false≢true}
@@ -11,9 +11,8 @@ pub starts-short-spec : {M : Type 1} → statement M
 starts-short-spec =
     tie.close
     (tie.spec
-    (λ c. search needs)
     (λ c e. absurd (false≢true e))
-    (λ c. search needs) (λ c. search needs)
-    (λ c e. let x = c .before .before in (x .before .enum-told .given .1, omega (arith, x .if1 .left), inl (eqb-true _ 1 e)))
-    (λ c e. let x = c .before .before .before in (x .before .enum-told .given .1, omega (arith, x .if1 .left), inr (eqb-true _ 3 e)))
-    (λ c e. absurd (false≢true e)))
+    (λ c. search needs) (λ c. search needs) (λ c. search needs) (λ c. search needs)
+    (λ c e. (omega arith, inl (eqb-true _ 3 e)))
+    (λ c e. (omega arith, inr (eqb-true _ 1 e, c .before .before .before .enum-told .given .1)))
+    (λ c e. (omega arith, inl (eqb-true _ 3 e))))

@@ -1,4 +1,4 @@
--- The first return is never taken: no table is as long as such a stride. The loop: the blocks before `from` are transformed, the others as they were.
+-- Lines that the transform leaves are left. The loop: the blocks before `from` are transformed, the others as they were.
 -- The block size divides the length, so that nothing is left where no further block fits.
 use borrow.Author.Needs.{needs}
 use mathlib.Core.Path.{_≡_, _∙_}
@@ -9,6 +9,7 @@ use Rattle.theory.specs.Parts.{length-part}
 use Rattle.lines.specs.FlatTables.{Local}
 use Rattle.lines.specs.Transforms.{lineOf}
 use Rattle.lines.specs.TransformLaws.{lineOf-local}
+use Rattle.lines.proofs.LowDegrees.{low-left}
 use Rattle.lines.proofs.FlatLoops.{Blocks, blocks-start, blocks-step, blocks-done}
 use Rattle.lines.proofs.transform_variable.Statement.{statement}
 use Rattle.lines.proofs.transform_variable.Tie as tie
@@ -21,7 +22,7 @@ abbrev μ-loop : tie.MeasureT-loop
 
 -- the loop's start, and that the transform only reads its line
 abbrev start : tie.At-loop Inv-loop μ-loop → tie.Start Inv-loop μ-loop
-start l = l .before .before .before
+start l = l .before .before .before .before
 
 local : (s : tie.Start Inv-loop μ-loop) → Local (lineOf (s .args .transform) (2 ^ 64))
 local s = lineOf-local (s .args .transform) (2 ^ 64)
@@ -32,9 +33,13 @@ transform-variable-spec =
     (tie.spec
     Inv-loop
     μ-loop
-    (λ c. absurd (omega arith))
-    (λ c. search needs) (λ c. search needs)
-    (λ c. blocks-start _ (local (c .before .before)) _ _ _)
+    (λ c. search needs) (λ c. search needs) (λ c κs. search needs)
+    (λ c.
+    let known = c .before .before in
+    let s = known .before in
+    let which = c .before .leaves-lines .ensures (c .if1 .taken) in
+    (omega arith, low-left (s .args .stride) (s .args .degree) (s .args .table .now) (which .1) (which .0) (s .pre .0) (λ i. omega (arith, known .slice-known .given i))))
+    (λ c. blocks-start _ (local (c .before .before .before)) _ _ _)
     (λ c. search needs) (λ c. search needs) (λ c. search needs) (λ c. search needs) (λ c. search needs) (λ c. search needs)
     (λ c κs.
     let l = c .before .before in

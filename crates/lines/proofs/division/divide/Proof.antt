@@ -1,5 +1,5 @@
--- The loop goes down: from place i on the pass is done, below i not yet, for whatever coefficients f the block was passed from; the measure is i.
--- It ends at index done + 1, below which a pass changes nothing.
+-- The loop goes down, two places a turn: from place i on the pass is done, below i not yet, for whatever coefficients f the block was passed from; the
+-- measure is i. A place that is left over comes last. The pass ends at index done + 1, below which it changes nothing.
 use borrow.Author.Needs.{needs}
 use mathlib.Core.Path.{_≡_, refl}
 use native.Mathlib.Omega.{arith}
@@ -41,15 +41,38 @@ divide-spec =
     let k = s .args in
     let e : length (k .part .now) - k .stride ≡ k .stride * k .degree = omega arith in
     (refl, omega arith, λ f r. rw e (divide-start (s .pre .0) (s .pre .2) r)))
-    (λ c. search needs) (λ c. search needs) (λ c. search needs) (λ c. search needs) (λ c. search needs) (λ c. search needs) (λ c κs. search needs)
-    (λ c κs. search needs) (λ c. search needs) (λ c. search needs) (λ c. search needs)
     (λ c.
-    let l = c .before .before .before .before .before in
+    let s = start c in
+    let k = s .args in
+    let h : k .done + 1 ≤ k .degree = omega arith in
+    record { fits = omega (arith, mul-le-mul-left (k .stride) h, s .pre .2) })
+    (λ c. search needs) (λ c. search needs) (λ c. search needs) (λ c. search needs) (λ c. search needs) (λ c. search needs) (λ c κs. search needs) (λ c κs. search needs) (λ c. search needs) (λ c. search needs)
+    (λ c. search needs) (λ c. search needs) (λ c. simp length-set (omega arith)) (λ c. search needs) (λ c. search needs) (λ c. simp length-set (omega arith)) (λ c κs. search needs) (λ c κs. search needs) (λ c. search needs)
+    (λ c. simp length-set (omega arith))
+    (λ c. search needs)
+    (λ c.
+    let first = c .before .before .before .before in
+    let l = first .before .before .before .before .before in
     let s = start l in
-    let number = sum-of-product _ (s .args .done) _ _ (c .before .wrapping-mul .ensures) (c .wrapping-add-u64 .ensures) in (
+    let number = sum-of-product _ (s .args .done) _ _ (first .before .wrapping-mul .ensures) (first .wrapping-add-u64 .ensures) in
+    let next = sum-of-product _ (s .args .done) _ _ (c .before .wrapping-mul2 .ensures) (c .wrapping-add-u642 .ensures) in (
       simp length-set (l .loop .inv .0),
       omega arith,
-      λ f r. divide-step (s .pre .0) (s .pre .2) (omega arith) (omega arith) (l .loop .inv .2 f r) _ number,
+      λ f r.
+          divide-step (s .pre .0) (s .pre .2) (omega arith) (omega arith)
+          (divide-step (s .pre .0) (s .pre .2) (omega arith) (omega arith) (l .loop .inv .2 f r) _ number) _ next,
     ))
-    (λ c. search needs)
-    (λ c. let s = start (c .before) in λ f r. divide-done (s .pre .0) (s .pre .2) (omega arith) (c .before .loop .inv .2 f r)))
+    (λ c. search needs) (λ c. search needs) (λ c. search needs) (λ c. search needs) (λ c. search needs) (λ c. search needs) (λ c κs. search needs) (λ c κs. search needs) (λ c. search needs) (λ c. search needs)
+    (λ c. simp length-set (c .before .before .before .before .before .before .loop .inv .0))
+    (λ c.
+    let l = c .before .before .before .before .before .before in
+    let s = start l in
+    let number = sum-of-product _ (s .args .done) _ _ (c .before .wrapping-mul3 .ensures) (c .wrapping-add-u643 .ensures) in
+    λ f r.
+    divide-done (s .pre .0) (s .pre .2) (omega arith)
+    (divide-step (s .pre .0) (s .pre .2) (omega arith) (omega arith) (l .loop .inv .2 f r) _ number))
+    (λ c. c .before .before .loop .inv .0)
+    (λ c.
+    let l = c .before .before in
+    let s = start l in
+    λ f r. divide-done (s .pre .0) (s .pre .2) (omega arith) (l .loop .inv .2 f r)))

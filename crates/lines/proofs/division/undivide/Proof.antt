@@ -1,10 +1,10 @@
--- The loop goes up from index done + 1: before place i the pass is undone, from i on not yet, for whatever coefficients f; the measure is the places
--- left. It ends below the highest index, which a pass does not change.
+-- The loop goes up from index done + 1, two places a turn: before place i the pass is undone, from i on not yet, for whatever coefficients f; the measure
+-- is the places left. A place that is left over comes last. The pass ends below the highest index, which it does not change.
 use borrow.Author.Needs.{needs}
 use mathlib.Core.Path.{_≡_, refl}
 use native.Mathlib.Omega.{arith}
-use native.Mathlib.Nat.{mul-le-mul-left}
-use Prim.Native.Nat.{ℕ, suc, _+_, _-_, _*_, _^_, _≤_}
+use native.Mathlib.Nat.{mul-le-mul-left, mul-pos}
+use Prim.Native.Nat.{ℕ, suc, _+_, _-_, _*_, _^_, _≤_, _<_}
 use lib.ListN.{length, length-set}
 use lib.Pow.{pow-pos}
 use Rattle.lines.specs.SyntheticDivision.{Divided, Dividing, undivide-start, undivide-step, undivide-done}
@@ -13,17 +13,20 @@ use Rattle.lines.proofs.division.undivide.Statement.{statement}
 use Rattle.lines.proofs.division.undivide.Tie as tie
 
 abbrev Inv-loop : tie.InvT-loop
-Inv-loop part₀ stride degree done factor end i₀ part i =
+Inv-loop part₀ stride degree done factor last i₀ part i =
     (length part ≡ length part₀)
     × (stride * suc done ≤ i)
     × ((f : ℕ → ℕ) → Divided (2 ^ 64) stride degree f (length part₀) (suc done) part₀ → Dividing (2 ^ 64) stride degree f (length part₀) done i part)
 
 abbrev μ-loop : tie.MeasureT-loop
-μ-loop part₀ stride degree done factor end i₀ part i = end - i
+μ-loop part₀ stride degree done factor last i₀ part i = last - i
 
--- the function's start, from the loop's head
+-- the function's start, from the loop's head; there is a number below the highest index
 abbrev start : tie.At-loop Inv-loop μ-loop → tie.Start Inv-loop μ-loop
 start l = l .before .before
+
+some : (s : tie.Start Inv-loop μ-loop) → 0 < s .args .stride * s .args .degree
+some s = mul-pos (s .pre .0) (omega (arith, s .pre .1))
 
 pub undivide-spec : {M : Type 1} → statement M
 undivide-spec =
@@ -31,7 +34,8 @@ undivide-spec =
     (tie.spec
     Inv-loop
     μ-loop
-    (λ c. search needs) (λ c. search needs) (λ c. search needs)
+    (λ c. search needs) (λ c. search needs) (λ c. omega (arith, some (c .before)))
+    (λ c. search needs)
     (λ c.
     let k = c .before .args in
     let h : k .done + 1 ≤ k .degree = omega arith in
@@ -41,15 +45,36 @@ undivide-spec =
     let k = s .args in
     let e : k .stride * (k .done + 1) ≡ k .stride * suc (k .done) = omega arith in
     (refl, omega arith, λ f r. rw e (undivide-start (s .pre .0) (s .pre .2) r)))
-    (λ c. search needs) (λ c. search needs) (λ c. search needs) (λ c. search needs) (λ c. search needs) (λ c κs. search needs) (λ c κs. search needs)
-    (λ c. search needs) (λ c. search needs) (λ c. search needs) (λ c. search needs)
+    (λ c. search needs) (λ c. search needs) (λ c. search needs) (λ c. search needs) (λ c. search needs) (λ c κs. search needs) (λ c κs. search needs) (λ c. search needs) (λ c. search needs) (λ c. search needs)
+    (λ c. search needs) (λ c. simp length-set (omega arith)) (λ c. search needs) (λ c. search needs) (λ c. simp length-set (omega arith)) (λ c κs. search needs) (λ c κs. search needs) (λ c. search needs) (λ c. simp length-set (omega arith))
+    (λ c. search needs)
+    (λ c. search needs)
     (λ c.
-    let l = c .before .before .before .before .before in
+    let first = c .before .before .before .before in
+    let l = first .before .before .before .before .before in
     let s = start l in
-    let number = difference-of-product _ (s .args .done) _ _ (pow-pos 64) (c .before .wrapping-mul .ensures) (c .wrapping-sub .ensures) in (
+    let i = l .loop .i in
+    let number = difference-of-product _ (s .args .done) _ _ (pow-pos 64) (first .before .wrapping-mul .ensures) (first .wrapping-sub .ensures) in
+    let next = difference-of-product _ (s .args .done) _ _ (pow-pos 64) (c .before .wrapping-mul2 .ensures) (c .wrapping-sub2 .ensures) in
+    let two : i + 1 + 1 ≡ i + 2 = omega arith in (
       simp length-set (l .loop .inv .0),
       omega arith,
-      λ f r. undivide-step (s .pre .0) (s .pre .2) (pow-pos 64) (omega arith) (omega arith) (l .loop .inv .2 f r) _ number,
+      λ f r.
+          rw two at
+          (undivide-step (s .pre .0) (s .pre .2) (pow-pos 64) (omega arith) (omega arith)
+          (undivide-step (s .pre .0) (s .pre .2) (pow-pos 64) (omega arith) (omega arith) (l .loop .inv .2 f r) _ number) _ next),
     ))
-    (λ c. search needs)
-    (λ c. let s = start (c .before) in λ f r. undivide-done (s .pre .0) (s .pre .2) (omega arith) (c .before .loop .inv .2 f r)))
+    (λ c. search needs) (λ c. search needs) (λ c. search needs) (λ c. search needs) (λ c. search needs) (λ c κs. search needs) (λ c κs. search needs) (λ c. search needs) (λ c. search needs)
+    (λ c. simp length-set (c .before .before .before .before .before .before .loop .inv .0))
+    (λ c.
+    let l = c .before .before .before .before .before .before in
+    let s = start l in
+    let number = difference-of-product _ (s .args .done) _ _ (pow-pos 64) (c .before .wrapping-mul3 .ensures) (c .wrapping-sub3 .ensures) in
+    λ f r.
+    undivide-done (s .pre .0) (s .pre .2) (omega (arith, some s))
+    (undivide-step (s .pre .0) (s .pre .2) (pow-pos 64) (omega arith) (omega (arith, some s)) (l .loop .inv .2 f r) _ number))
+    (λ c. c .before .before .loop .inv .0)
+    (λ c.
+    let l = c .before .before in
+    let s = start l in
+    λ f r. undivide-done (s .pre .0) (s .pre .2) (omega (arith, c .if1 .left, c .before .loop-test .left)) (l .loop .inv .2 f r)))

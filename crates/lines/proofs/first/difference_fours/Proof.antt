@@ -7,12 +7,12 @@ use native.Mathlib.Omega.{arith}
 use lib.ListN.{length, length-set}
 use Rattle.meaning.specs.Tables.{at}
 use Rattle.meaning.specs.Differences.{minus}
-use Rattle.lines.proofs.Neighbours.{Neighbours, neighbours-start, neighbours-done, fours-step}
+use Rattle.lines.proofs.Neighbours.{Neighbours, newtonLine, neighbours-start, neighbours-done, fours-step}
 use Rattle.lines.proofs.first.difference_fours.Statement.{statement}
 use Rattle.lines.proofs.first.difference_fours.Tie as tie
 
 abbrev Inv-loop : tie.InvT-loop
-Inv-loop table₀ i₀ table i = (i ≤ length table) × Neighbours 3 table₀ table i
+Inv-loop table₀ i₀ table i = (i ≤ length table) × Neighbours newtonLine 3 table₀ table i
 
 abbrev μ-loop : tie.MeasureT-loop
 μ-loop table₀ i₀ table i = length table - i
@@ -27,7 +27,7 @@ difference-fours-spec =
     (tie.spec
     Inv-loop
     μ-loop
-    (λ c. (omega arith, neighbours-start 3 _))
+    (λ c. (omega arith, neighbours-start newtonLine 3 _))
     (λ c. search needs)
     (λ c. search needs) (λ c. search needs) (λ c. search needs) (λ c. search needs) (λ c. search needs) (λ c κs. search needs)
     (λ c. search needs) (λ c. search needs) (λ c. search needs) (λ c. search needs) (λ c. search needs) (λ c. search needs) (λ c κs. search needs)
@@ -56,4 +56,4 @@ difference-fours-spec =
     (λ c. c .before .loop .inv .1 .filled .same)
     (λ c.
     let l = c .before in
-    neighbours-done 3 _ (l .loop .table) (l .loop .i) (l .loop .inv .1) (l .loop .inv .0) (l .before .before .pre) (omega arith)))
+    neighbours-done newtonLine 3 _ (l .loop .table) (l .loop .i) (l .loop .inv .1) (l .loop .inv .0) (l .before .before .pre) (omega arith)))

@@ -3,12 +3,12 @@ use borrow.Author.Needs.{needs}
 use Prim.Native.Nat.{_-_, _≤_}
 use native.Mathlib.Omega.{arith}
 use lib.ListN.{length, length-set}
-use Rattle.lines.proofs.Neighbours.{Neighbours, neighbours-start, neighbours-done, twos-step}
+use Rattle.lines.proofs.Neighbours.{Neighbours, newtonLine, neighbours-start, neighbours-done, twos-step}
 use Rattle.lines.proofs.first.difference_twos.Statement.{statement}
 use Rattle.lines.proofs.first.difference_twos.Tie as tie
 
 abbrev Inv-loop : tie.InvT-loop
-Inv-loop table₀ i₀ table i = (i ≤ length table) × Neighbours 1 table₀ table i
+Inv-loop table₀ i₀ table i = (i ≤ length table) × Neighbours newtonLine 1 table₀ table i
 
 abbrev μ-loop : tie.MeasureT-loop
 μ-loop table₀ i₀ table i = length table - i
@@ -19,7 +19,7 @@ difference-twos-spec =
     (tie.spec
     Inv-loop
     μ-loop
-    (λ c. (omega arith, neighbours-start 1 _))
+    (λ c. (omega arith, neighbours-start newtonLine 1 _))
     (λ c. search needs) (λ c. search needs) (λ c. search needs) (λ c. search needs) (λ c. search needs) (λ c. search needs) (λ c κs. search needs)
     (λ c. search needs) (λ c. search needs) (λ c. search needs) (λ c. search needs)
     (λ c. simp length-set (omega arith))
@@ -29,4 +29,4 @@ difference-twos-spec =
     (λ c. c .before .loop .inv .1 .filled .same)
     (λ c.
     let l = c .before in
-    neighbours-done 1 _ (l .loop .table) (l .loop .i) (l .loop .inv .1) (l .loop .inv .0) (l .before .before .pre) (omega arith)))
+    neighbours-done newtonLine 1 _ (l .loop .table) (l .loop .i) (l .loop .inv .1) (l .loop .inv .0) (l .before .before .pre) (omega arith)))

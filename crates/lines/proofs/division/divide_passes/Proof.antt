@@ -3,8 +3,8 @@
 use borrow.Author.Needs.{needs}
 use native.Mathlib.Omega.{arith}
 use native.Mathlib.Nat.{mul-le-mul-right}
-use Rattle.lines.proofs.division.divide_block.Statement.{statement}
-use Rattle.lines.proofs.division.divide_block.Tie as tie
+use Rattle.lines.proofs.division.divide_passes.Statement.{statement}
+use Rattle.lines.proofs.division.divide_passes.Tie as tie
 use mathlib.Core.Path.{_∙_}
 use Prim.Native.Nat.{suc, _-_, _^_, _≤_}
 use native.Mathlib.Numerals.{add-one}
@@ -19,8 +19,8 @@ Inv-loop part₀ stride degree done₀ part done = (done ≤ degree) × Divided 
 abbrev μ-loop : tie.MeasureT-loop
 μ-loop part₀ stride degree done₀ part done = degree - done
 
-pub divide-block-spec : {M : Type 1} → statement M
-divide-block-spec =
+pub divide-passes-spec : {M : Type 1} → statement M
+divide-passes-spec =
     tie.close
     (tie.spec
     Inv-loop

@@ -1,7 +1,7 @@
 -- The block that comes is the one of the sought powers after all passes. The loop: done - 1 of the passes are still there, and each turn undoes one;
 -- the measure is `done`. With none left the block has the powers (`undivided-powers`).
-use Rattle.lines.proofs.division.undivide_block.Statement.{statement}
-use Rattle.lines.proofs.division.undivide_block.Tie as tie
+use Rattle.lines.proofs.division.undivide_passes.Statement.{statement}
+use Rattle.lines.proofs.division.undivide_passes.Tie as tie
 use borrow.Author.Needs.{needs}
 use mathlib.Core.Path.{_≡_, _∙_}
 use native.Mathlib.Omega.{arith}
@@ -21,8 +21,8 @@ Inv-loop part₀ stride degree done₀ part done = (done ≤ degree) × Divided 
 abbrev μ-loop : tie.MeasureT-loop
 μ-loop part₀ stride degree done₀ part done = done
 
-pub undivide-block-spec : {M : Type 1} → statement M
-undivide-block-spec =
+pub undivide-passes-spec : {M : Type 1} → statement M
+undivide-passes-spec =
     tie.close
     (tie.spec
     Inv-loop
