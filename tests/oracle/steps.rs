@@ -49,7 +49,7 @@ fn asked(k: usize, call: impl FnOnce(&Evaluator, &[u32], u32)) -> u64 {
     count.get()
 }
 
-mod columns {
+pub mod columns {
     include!("../../target/oracle/columns.rs");
 
     pub fn listed(k: u32, max: u8, most: u8) -> u64 {
