@@ -1,4 +1,4 @@
 -- The statements about several calls, from the promises of each.
 pub mod Together
 pub mod RoundTrips
-pub mod Rooms
+pub mod KeptRooms

@@ -24,7 +24,10 @@ pub extern "C" fn cobra_recovery_room(
     ensures costs { λ r. ⌜ Costs (length (now (support .entry))) degree (roomTold r (now (cells .exit)) (now (subtractions .exit))) ⌝ }
 {
     match room::recovery_room(support, total, width, degree) {
-        RecoveryRoom::Counts { cells: count, subtractions: made } => {
+        RecoveryRoom::Counts {
+            cells: count,
+            subtractions: made,
+        } => {
             *cells = count;
             *subtractions = made;
             0
@@ -49,11 +52,15 @@ pub extern "C" fn cobra_fit_room(
     columns: &mut u64,
     entries: &mut u64,
 ) -> u32
-    ensures says { λ r. ⌜ fitRoomTold r (now (rows .exit)) (now (columns .exit)) (now (entries .exit)) ≡ fitRoom (fitSettings total width (now (support .entry)) max_degree grid_degree) ⌝ }
-    ensures costs { λ r. ⌜ FitCosts (length (now (support .entry))) max_degree grid_degree (fitRoomTold r (now (rows .exit)) (now (columns .exit)) (now (entries .exit))) ⌝ }
+    ensures says { λ r. ⌜ fitRoomTold r (now (rows .exit)) (now (columns .exit)) (now (entries .exit)) ≡ fitRoom (fitSettings total width (now (support .entry)) «max_degree» «grid_degree») ⌝ }
+    ensures costs { λ r. ⌜ FitCosts (length (now (support .entry))) «max_degree» «grid_degree» (fitRoomTold r (now (rows .exit)) (now (columns .exit)) (now (entries .exit))) ⌝ }
 {
     match weighted_poly_fit::sizes::fit_room(support, total, width, max_degree, grid_degree) {
-        FitRoom::Counts { rows: points, columns: lists, entries: numbers } => {
+        FitRoom::Counts {
+            rows: points,
+            columns: lists,
+            entries: numbers,
+        } => {
             *rows = points;
             *columns = lists;
             *entries = numbers;

@@ -1,30 +1,58 @@
--- The rows of a column cleared one after the other, by the pivot row or by a copy of it: tables that show a state then show the next one.
-use mathlib.Core.Path.{_≡_, refl, sym, ap, subst, _∙_}
+-- The rows of a column cleared one after the other, by a part of the pivot row: tables that show a state then show the one in which the columns of that part
+-- are as after the column's step.
+use mathlib.Core.Path.{_≡_, refl, sym, ap, ap₂, _∙_}
 use mathlib.Core.Bool.{Bool, true, false, cond}
 use mathlib.Core.List.{List}
-use mathlib.Core.Logic.{⊎-elim, _⊎_}
+use mathlib.Core.Logic.{⊎-elim}
 use Prim.Native.Nat.{ℕ, _+_, _*_, _-_, _/_, _^_, _≤_, _<_, zero-le}
-use native.Mathlib.Nat.{le-refl, ne-of-lt, lt-of-not-le}
+use native.Mathlib.Nat.{le-refl, le-trans, ne-of-lt, lt-of-not-le, mul-zero}
 use native.Mathlib.Decide.{decLe}
 use native.Mathlib.Omega.{arith}
 use lib.Dec.{ltb}
-use lib.ListN.{length, getD, take}
-use lib.Seq.{getD-take, length-take-le}
+use lib.ListN.{length, getD}
 use borrow.Author.Tests.{lt-ltb, le-ltb}
 use Rattle.meaning.specs.Tables.{at}
-use Rattle.meaning.specs.Factorials.{twosIn}
 use Rattle.meaning.specs.Inverses.{inverse}
-use Rattle.meaning.specs.Elimination.{State, height, chosen, step}
+use Rattle.meaning.specs.Differences.{minus}
+use Rattle.meaning.specs.Factorials.{twosIn}
+use Rattle.meaning.specs.Elimination.{State, quotient, height, chosen, step}
 use Rattle.theory.specs.Pivots.{Found, Missing, chosen-cases, found-unused, found-twos}
-use Rattle.theory.specs.Elimination.{kept, lessPivot, step-kept, kept-pivot}
+use Rattle.theory.specs.Elimination.{kept, multiplier, step-kept, step-cleared, kept-pivot}
+use Rattle.theory.specs.StepLaws.{minus-none}
+use Rattle.theory.specs.Echelon.{echelon-step}
 use Rattle.two_adic_solver.specs.ShownStates.{Shows}
-use Rattle.two_adic_solver.specs.Rows.{Spanned}
-use Rattle.two_adic_solver.specs.Shown.{clearedRow, upTo, Clearing, PivotRow}
+use Rattle.two_adic_solver.specs.Shown.{clearedRow, stepped, Behind, Clearing, PivotPart}
 use Rattle.two_adic_solver.proofs.ClearLaws.{decEq, shows-eq, cleared-here, cleared-other}
 
-cond-same : (b : Bool) {x y : ℕ} → x ≡ y → cond b x y ≡ y
-cond-same true e = e
-cond-same false e = refl
+cond-same : (b : Bool) {x y : ℕ} → y ≡ x → cond b x y ≡ x
+cond-same true e = refl
+cond-same false e = e
+
+-- the part of a row between columns a and b
+abbrev pub between : ℕ → ℕ → (ℕ → ℕ) → ℕ → ℕ
+between a b f j = cond (ltb j a) 0 (cond (ltb j b) (f j) 0)
+
+module _ (a b : ℕ) (f : ℕ → ℕ) (j : ℕ) where
+  pub between-low : j < a → between a b f j ≡ 0
+  between-low l = ap (λ (x : Bool). cond x 0 (cond (ltb j b) (f j) 0)) (lt-ltb j a l)
+
+  pub between-mid : a ≤ j → j < b → between a b f j ≡ f j
+  between-mid l m =
+      ap (λ (x : Bool). cond x 0 (cond (ltb j b) (f j) 0)) (le-ltb j a l) ∙ ap (λ (x : Bool). cond x (f j) 0) (lt-ltb j b m)
+
+  pub between-high : a ≤ j → b ≤ j → between a b f j ≡ 0
+  between-high l m =
+      ap (λ (x : Bool). cond x 0 (cond (ltb j b) (f j) 0)) (le-ltb j a l) ∙ ap (λ (x : Bool). cond x (f j) 0) (le-ltb j b m)
+
+-- a row's part that is the pivot row's between columns a and b, as far as column `cols`, and 0 elsewhere; mat′ and rhs′ show the row less a multiple of it
+pub record RowCleared (w rows cols c p a b t k : ℕ) (used : Bool) (s u : State) (mat′ rhs′ : List ℕ) : Type 0 where
+  pub pivot : ℕ
+  pub part : ℕ → ℕ
+  pub pivot-eq : pivot ≡ s .entry p c
+  pub low : (j : ℕ) → j < a → part j ≡ 0
+  pub mid : (j : ℕ) → a ≤ j → j < b → part j ≡ s .entry p j
+  pub high : (j : ℕ) → b ≤ j → j ≤ cols → part j ≡ 0
+  pub shows : Shows rows cols (clearedRow used w t pivot part c k u) mat′ rhs′
 
 module _ (w rows c p : ℕ) (used : List Bool) (s : State) (r : Clearing w rows c p used s) (lp : p < rows) where
   found : Found w (height w s c) rows (chosen w rows s c)
@@ -39,145 +67,180 @@ module _ (w rows c p : ℕ) (used : List Bool) (s : State) (r : Clearing w rows 
   kept-p : kept w rows s c p ≡ true
   kept-p = ap (kept w rows s c) (r .chosen-eq) ∙ kept-pivot w rows s c
 
-  pivot-stays : (k j : ℕ) → upTo w rows s c k .entry p j ≡ s .entry p j
-  unfolding upTo
-  pivot-stays k j = cond-same (ltb p k) (step-kept w rows s c p j kept-p)
+  -- the pivot row is 0 before the column
+  pub unused : (j : ℕ) → j < c → s .entry p j ≡ 0
+  unused j l = r .echelon .cleared p lp (ap (s .used) (r .chosen-eq) ∙ found-unused w rows s c _ found) j l
 
-  this-row : (k j : ℕ) → upTo w rows s c k .entry k j ≡ s .entry k j
-  unfolding upTo
-  this-row k j = ap (λ (b : Bool). cond b (step w rows s c .entry k j) (s .entry k j)) (le-ltb k k (le-refl k))
+  -- row i from column b on after the step
+  abbrev held : ℕ → ℕ → ℕ → ℕ
+  held b i j = cond (ltb j b) (s .entry i j) (step w rows s c .entry i j)
 
-  done-row : (k i j : ℕ) → i < k → upTo w rows s c k .entry i j ≡ step w rows s c .entry i j
-  unfolding upTo
-  done-row k i j l = ap (λ (b : Bool). cond b (step w rows s c .entry i j) (s .entry i j)) (lt-ltb i k l)
+  held-before : (b i j : ℕ) → j < b → held b i j ≡ s .entry i j
+  held-before b i j l = ap (λ (x : Bool). cond x (s .entry i j) (step w rows s c .entry i j)) (lt-ltb j b l)
 
-  open-row : (k i j : ℕ) → k ≤ i → upTo w rows s c k .entry i j ≡ s .entry i j
-  unfolding upTo
-  open-row k i j l = ap (λ (b : Bool). cond b (step w rows s c .entry i j) (s .entry i j)) (le-ltb i k l)
+  held-after : (b i j : ℕ) → b ≤ j → held b i j ≡ step w rows s c .entry i j
+  held-after b i j l = ap (λ (x : Bool). cond x (s .entry i j) (step w rows s c .entry i j)) (le-ltb j b l)
 
-  step-entry : (i j : ℕ) → step w rows s c .entry i j ≡ cond (kept w rows s c i) (s .entry i j) (lessPivot w rows s c i j)
-  unfolding step
-  step-entry i j = refl
+  held-kept : (b i j : ℕ) → kept w rows s c i ≡ true → held b i j ≡ s .entry i j
+  held-kept b i j e = cond-same (ltb j b) (step-kept w rows s c i j e)
 
-  module _ (t v : ℕ) (et : t ≡ twosIn w (s .entry p c)) (ev : v ≡ inverse (s .entry p c / 2 ^ t) (w - t)) (k : ℕ) (lk : k < rows) where
-    cleared-row : (j : ℕ) → clearedRow (getD used k false) w t p c k (upTo w rows s c k) .entry k j ≡ step w rows s c .entry k j
-    cleared-row j =
-        let e₁ = cleared-here w t p c k (upTo w rows s c k) (getD used k false) k j refl in
-        let e₂ = this-row k j in
-        let e₃ = this-row k c in
-        let e₄ = pivot-stays k j in
-        let e₅ = pivot-stays k c in
-        let e₆ : t ≡ chosen w rows s c .twos = et ∙ sym pivot-twos in
-        let e₇ = r .chosen-eq in
-        let e₈ = r .marked k lk in
-        let e₉ = step-entry k j in
-        cc
+  held-small : (b i j : ℕ) → held b i j < 2 ^ w
+  held-small b i j = go (ltb j b)
+    where
+      go : (x : Bool) → cond x (s .entry i j) (step w rows s c .entry i j) < 2 ^ w
+      go true = r .echelon .small i j
+      go false = echelon-step w rows s c (r .echelon) .small i j
 
-    next-rows : (i j : ℕ) → clearedRow (getD used k false) w t p c k (upTo w rows s c k) .entry i j ≡ upTo w rows s c (k + 1) .entry i j
-    next-rows i j = go (decEq i k) (decLe k i)
-      where
-        go : Dec (i ≡ k) → Dec (k ≤ i) → clearedRow (getD used k false) w t p c k (upTo w rows s c k) .entry i j ≡ upTo w rows s c (k + 1) .entry i j
-        go (yes e) d = rw e (cleared-row j ∙ sym (done-row (k + 1) k j (omega arith)))
-        go (no e) (yes h) =
-            let l : k + 1 ≤ i = above (decLe (k + 1) i) in
-            cleared-other w t p c k _ (getD used k false) i j e ∙ open-row k i j h ∙ sym (open-row (k + 1) i j l)
-          where
-            above : Dec (k + 1 ≤ i) → k + 1 ≤ i
-            above (yes l) = l
-            above (no l) = absurd (e (omega arith))
-        go (no e) (no h) =
-            let l : i < k = lt-of-not-le h in
-            cleared-other w t p c k _ (getD used k false) i j e ∙ done-row k i j l ∙ sym (done-row (k + 1) i j (omega arith))
+  -- a column in which the pivot row is 0 stays
+  step-none : (i j : ℕ) → s .entry p j ≡ 0 → s .entry i j ≡ step w rows s c .entry i j
+  step-none i j z = go (kept w rows s c i) refl
+    where
+      go : (b : Bool) → kept w rows s c i ≡ b → s .entry i j ≡ step w rows s c .entry i j
+      go true e = sym (step-kept w rows s c i j e)
+      go false e =
+          sym (step-cleared w rows s c i j e
+          ∙ minus-none (r .echelon .small i j)
+          (ap (λ (n : ℕ). multiplier w rows s c i * s .entry n j) (sym (r .chosen-eq)) ∙ ap (multiplier w rows s c i *_) z ∙ mul-zero _))
 
-    pub column-step : (cols n : ℕ) (mat rhs mat′ rhs′ : List ℕ) → n ≡ rows
-        → ((u : State) → Shows n cols u mat rhs → v ≡ inverse (u .entry p c / 2 ^ t) (w - t)
-        → ((j : ℕ) → u .entry k j < 2 ^ w) → ((j : ℕ) → j < c → u .entry p j ≡ 0) → ((j : ℕ) → u .entry p j ≡ s .entry p j)
-        → Shows n cols (clearedRow (getD used k false) w t p c k u) mat′ rhs′)
-        → Shows rows cols (upTo w rows s c k) mat rhs → Shows rows cols (upTo w rows s c (k + 1)) mat′ rhs′
-    column-step cols n mat rhs mat′ rhs′ en f h =
-        shows-eq rows cols _ _ mat′ rhs′
-        (subst (λ (m : ℕ). Shows m cols (clearedRow (getD used k false) w t p c k (upTo w rows s c k)) mat′ rhs′) en
-        (f (upTo w rows s c k) (subst (λ (m : ℕ). Shows m cols (upTo w rows s c k) mat rhs) (sym en) h)
-        (ev ∙ ap (λ (x : ℕ). inverse (x / 2 ^ t) (w - t)) (sym (pivot-stays k c)))
-        (λ j. rw (this-row k j) (r .echelon .small k j))
-        (λ j l. pivot-stays k j ∙ unused j l)
-        (pivot-stays k)))
-        (λ i j l. next-rows i j)
-      where
-        unused : (j : ℕ) → j < c → s .entry p j ≡ 0
-        unused j l = r .echelon .cleared p lp (ap (s .used) (r .chosen-eq) ∙ found-unused w rows s c _ found) j l
+  -- ---- one bound for all rows
 
-  pub column-start : (cols : ℕ) (mat rhs : List ℕ) → Shows rows cols s mat rhs → Shows rows cols (upTo w rows s c 0) mat rhs
-  column-start cols mat rhs h = shows-eq rows cols s _ mat rhs h (λ i j l. sym (open-row 0 i j zero-le))
+  -- the pivot row is as it was
+  pub pivot-stays : (bound : ℕ → ℕ) (j : ℕ) → stepped w rows s c bound .entry p j ≡ s .entry p j
+  unfolding stepped
+  pivot-stays bound j = held-kept (bound p) p j kept-p
 
-  pub column-done : (cols k : ℕ) (mat rhs : List ℕ) → rows ≤ k → Shows rows cols (upTo w rows s c k) mat rhs → Shows rows cols (step w rows s c) mat rhs
-  column-done cols k mat rhs lk h = shows-eq rows cols _ _ mat rhs h (λ i j l. done-row k i j (omega arith))
+  -- nothing stepped, and all
+  pub stepped-none : (cols b : ℕ) (mat rhs : List ℕ) → cols < b → Shows rows cols s mat rhs → Shows rows cols (stepped w rows s c (λ i. b)) mat rhs
+  unfolding stepped
+  stepped-none cols b mat rhs l h = shows-eq rows cols s _ mat rhs h (λ i j m n. sym (held-before b i j (omega arith)))
 
--- the first k rows of a column cleared, whatever state the tables showed
-pub record Cleared (w cols c p : ℕ) (used : List Bool) (mat₀ rhs₀ mat rhs : List ℕ) (k : ℕ) : Type 0 where
-  pub same-matrix : length mat ≡ length mat₀
-  pub same-right : length rhs ≡ length rhs₀
-  pub within : k ≤ length rhs₀
-  pub so-far : (s : State) → Shows (length rhs₀) cols s mat₀ rhs₀ → Clearing w (length rhs₀) c p used s
-      → Shows (length rhs₀) cols (upTo w (length rhs₀) s c k) mat rhs
+  pub stepped-all : (cols b : ℕ) (mat rhs : List ℕ) → b ≤ cols → ((j : ℕ) → c ≤ j → j < b → s .entry p j ≡ 0)
+      → Shows rows cols (stepped w rows s c (λ i. b)) mat rhs → Shows rows cols (step w rows s c) mat rhs
+  unfolding stepped
+  stepped-all cols b mat rhs l zeros h = shows-eq rows cols _ _ mat rhs h (λ i j m n. go i j (decLe b j) (decLe c j))
+    where
+      go : (i j : ℕ) → Dec (b ≤ j) → Dec (c ≤ j) → held b i j ≡ step w rows s c .entry i j
+      go i j (yes x) y = held-after b i j x
+      go i j (no x) (yes y) = held-before b i j (lt-of-not-le x) ∙ step-none i j (zeros j y (lt-of-not-le x))
+      go i j (no x) (no y) = held-before b i j (lt-of-not-le x) ∙ step-none i j (unused j (lt-of-not-le y))
 
-module _ (w cols c p : ℕ) (used : List Bool) (mat₀ rhs₀ : List ℕ) (lp : p < length rhs₀) where
-  pub cleared-start : Cleared w cols c p used mat₀ rhs₀ mat₀ rhs₀ 0
-  cleared-start =
+  -- the pivot row's part as it was copied from the tables
+  pub pivot-part : (cols a end side b t v : ℕ) (mat rhs src : List ℕ) → Behind w rows cols c p end side b s mat rhs → a < end → end ≤ cols
+      → v ≡ inverse (s .entry p c / 2 ^ t) (w - t) → length src ≡ end - a → ((k : ℕ) → k < end - a → at src k ≡ at mat (p * cols + a + k))
+      → PivotPart w cols a (s .entry p c) t v src side (between a b (s .entry p))
+  pivot-part cols a end side b t v mat rhs src h la le ev size copied =
       record {
-        same-matrix = refl;
-        same-right = refl;
-        within = zero-le;
-        so-far = λ s h r. column-start w (length rhs₀) c p used s r lp cols mat₀ rhs₀ h;
+        inverse-eq = ev;
+        entries =
+            λ k q.
+            let l : k < end - a = rw size at q in
+            let place : p * cols + a + k ≡ p * cols + (a + k) = omega arith in
+            copied k l
+            ∙ ap (at mat) place
+            ∙ h .shows .entries p (a + k) lp (omega arith)
+            ∙ pivot-stays (λ i. b) (a + k)
+            ∙ sym (between-mid a b (s .entry p) (a + k) (omega arith) (omega (arith, h .above)));
+        right = right (decLe b cols);
+        before = between-low a b (s .entry p);
+        after = λ j q m. after j (omega (arith, size)) m (decLe b j);
       }
+    where
+      right : Dec (b ≤ cols) → side ≡ between a b (s .entry p) cols
+      right (yes l) = h .outside l ∙ sym (between-high a b (s .entry p) cols (omega arith) l)
+      right (no l) = h .inside (lt-of-not-le l) ∙ sym (between-mid a b (s .entry p) cols (omega arith) (lt-of-not-le l))
 
-  pub cleared-step : (lc : c < cols) (x t v : ℕ) → x ≡ at mat₀ (p * cols + c) → t ≡ twosIn w x → v ≡ inverse (x / 2 ^ t) (w - t)
-      → (mat rhs mat′ rhs′ : List ℕ) (k : ℕ) → Cleared w cols c p used mat₀ rhs₀ mat rhs k → k < length rhs
-      → length mat′ ≡ length mat → length rhs′ ≡ length rhs
-      → ((u : State) → Shows (length rhs) cols u mat rhs → v ≡ inverse (u .entry p c / 2 ^ t) (w - t)
-      → ((j : ℕ) → u .entry k j < 2 ^ w) → ((j : ℕ) → j < c → u .entry p j ≡ 0)
-      → ((j : ℕ) → j < cols → u .entry p j ≡ at mat₀ (p * cols + j)) → u .entry p cols ≡ at rhs₀ p
-      → Shows (length rhs) cols (clearedRow (getD used k false) w t p c k u) mat′ rhs′)
-      → Cleared w cols c p used mat₀ rhs₀ mat′ rhs′ (k + 1)
-  cleared-step lc x t v ex et ev mat rhs mat′ rhs′ k r lk em er f =
-      record {
-        same-matrix = em ∙ r .same-matrix;
-        same-right = er ∙ r .same-right;
-        within = omega (arith, r .same-right);
-        so-far =
-            λ s h z.
-            let e : x ≡ s .entry p c = ex ∙ h .entries p c lp lc in
-            column-step w (length rhs₀) c p used s z lp t v (et ∙ ap (twosIn w) e) (ev ∙ ap (λ (y : ℕ). inverse (y / 2 ^ t) (w - t)) e) k
-            (omega (arith, r .same-right)) cols (length rhs) mat rhs mat′ rhs′ (r .same-right)
-            (λ u g i small zeros stays.
-            f u g i small zeros (λ j l. stays j ∙ sym (h .entries p j lp l)) (stays cols ∙ sym (h .rights p lp))) (r .so-far s h z);
-      }
+      after : (j : ℕ) → end ≤ j → j < cols → Dec (b ≤ j) → between a b (s .entry p) j ≡ 0
+      after j q m (yes l) = between-high a b (s .entry p) j (omega arith) l
+      after j q m (no l) = between-mid a b (s .entry p) j (omega arith) (lt-of-not-le l) ∙ h .zeros j q (lt-of-not-le l) m
 
-  pub cleared-done : (mat rhs : List ℕ) (k : ℕ) → Cleared w cols c p used mat₀ rhs₀ mat rhs k → length rhs ≤ k
-      → (s : State) → Shows (length rhs₀) cols s mat₀ rhs₀ → Clearing w (length rhs₀) c p used s
-      → Shows (length rhs₀) cols (step w (length rhs₀) s c) mat rhs
-  cleared-done mat rhs k r l s h z =
-      column-done w (length rhs₀) c p used s z lp cols k mat rhs (omega (arith, r .same-right)) (r .so-far s h z)
+  -- ---- row after row
 
--- ---- the pivot row's copy
+  module _ (a b : ℕ) (order : a ≤ b) (lc : c < b) where
+    abbrev upTo : ℕ → State
+    upTo k = stepped w rows s c (λ i. cond (ltb i k) a b)
 
--- the pivot row as it was copied is that of each state whose pivot row is as it was
-pub pivot-row : (w cols c p t v n : ℕ) (mat rhs room : List ℕ) → Spanned (p * cols + c) (p * cols + cols) mat room n → n ≤ length room
-    → (u : State) → v ≡ inverse (u .entry p c / 2 ^ t) (w - t) → ((j : ℕ) → j < c → u .entry p j ≡ 0)
-    → ((j : ℕ) → j < cols → u .entry p j ≡ at mat (p * cols + j)) → u .entry p cols ≡ at rhs p
-    → PivotRow w cols c p t v (take n room) (at rhs p) u
-pivot-row w cols c p t v n mat rhs room r l u ev zeros stays right =
-    record {
-      inverse-eq = ev;
-      entries =
-          λ k q.
-          let short : k < n = rw size at q in
-          let place : p * cols + c + k ≡ p * cols + (c + k) = omega arith in
-          getD-take n room k 0 short ∙ r .copied k short ∙ ap (at mat) place ∙ sym (stays (c + k) (omega (arith, r .within)));
-      right = sym right;
-      before = zeros;
-      after = λ j q k. stays j k ∙ r .zeros (p * cols + j) (omega (arith, size)) (omega arith);
-    }
-  where
-    size : length (take n room) ≡ n
-    size = length-take-le n room l
+    done-row : (k i j : ℕ) → i < k → upTo k .entry i j ≡ held a i j
+    unfolding stepped
+    done-row k i j l = ap (λ (x : Bool). held (cond x a b) i j) (lt-ltb i k l)
+
+    open-row : (k i j : ℕ) → k ≤ i → upTo k .entry i j ≡ held b i j
+    unfolding stepped
+    open-row k i j l = ap (λ (x : Bool). held (cond x a b) i j) (le-ltb i k l)
+
+    pub row-small : (k j : ℕ) → upTo k .entry k j < 2 ^ w
+    row-small k j = rw (open-row k k j (le-refl k)) (held-small b k j)
+
+    pub rows-start : (cols : ℕ) (mat rhs : List ℕ) → Shows rows cols (stepped w rows s c (λ i. b)) mat rhs → Shows rows cols (upTo 0) mat rhs
+    unfolding stepped
+    rows-start cols mat rhs h = shows-eq rows cols _ _ mat rhs h (λ i j l m. sym (open-row 0 i j zero-le))
+
+    pub rows-done : (cols k : ℕ) (mat rhs : List ℕ) → rows ≤ k → Shows rows cols (upTo k) mat rhs → Shows rows cols (stepped w rows s c (λ i. a)) mat rhs
+    unfolding stepped
+    rows-done cols k mat rhs lk h = shows-eq rows cols _ _ mat rhs h (λ i j l m. done-row k i j (omega arith))
+
+    module _ (t k cols : ℕ) (mat′ rhs′ : List ℕ) (et : t ≡ twosIn w (s .entry p c)) (lk : k < rows)
+        (z : RowCleared w rows cols c p a b t k (getD used k false) s (upTo k) mat′ rhs′) where
+      same-multiple : quotient w t (z .pivot) (upTo k .entry k c) ≡ multiplier w rows s c k
+      same-multiple =
+          let e₁ : t ≡ chosen w rows s c .twos = et ∙ sym pivot-twos in
+          let e₂ : z .pivot ≡ s .entry (chosen w rows s c .row) c = z .pivot-eq ∙ ap (λ (n : ℕ). s .entry n c) (r .chosen-eq) in
+          let e₃ : upTo k .entry k c ≡ s .entry k c = open-row k k c (le-refl k) ∙ held-before b k c lc in
+          cc
+
+      abbrev value : ℕ → ℕ
+      value j = minus (2 ^ w) (upTo k .entry k j) (quotient w t (z .pivot) (upTo k .entry k c) * z .part j)
+
+      -- where the part is 0 nothing changes
+      value-none : (j : ℕ) → z .part j ≡ 0 → value j ≡ held b k j
+      value-none j e =
+          let q = quotient w t (z .pivot) (upTo k .entry k c) in
+          minus-none (row-small k j) (ap (q *_) e ∙ mul-zero q) ∙ open-row k k j (le-refl k)
+
+      value-step : (j : ℕ) → kept w rows s c k ≡ false → a ≤ j → j < b → value j ≡ step w rows s c .entry k j
+      value-step j e l m =
+          ap₂ (λ (x y : ℕ). minus (2 ^ w) x (y * z .part j)) (open-row k k j (le-refl k) ∙ held-before b k j m) same-multiple
+          ∙ ap (λ (x : ℕ). minus (2 ^ w) (s .entry k j) (multiplier w rows s c k * x)) (z .mid j l m ∙ ap (λ (n : ℕ). s .entry n j) (r .chosen-eq))
+          ∙ sym (step-cleared w rows s c k j e)
+
+      cleared-row : (j : ℕ) → j ≤ cols → clearedRow (getD used k false) w t (z .pivot) (z .part) c k (upTo k) .entry k j ≡ held a k j
+      cleared-row j l =
+          cleared-here w t (z .pivot) (z .part) c k (upTo k) (getD used k false) k j refl ∙ go (kept w rows s c k) refl (decLe a j) (decLe b j)
+        where
+          go : (y : Bool) → kept w rows s c k ≡ y → Dec (a ≤ j) → Dec (b ≤ j) → cond (getD used k false) (upTo k .entry k j) (value j) ≡ held a k j
+          go true e x y =
+              ap (λ (d : Bool). cond d (upTo k .entry k j) (value j)) (r .marked k lk ∙ e)
+              ∙ open-row k k j (le-refl k)
+              ∙ held-kept b k j e
+              ∙ sym (held-kept a k j e)
+          go false e (no x) y =
+              let m : j < a = lt-of-not-le x in
+              ap (λ (d : Bool). cond d (upTo k .entry k j) (value j)) (r .marked k lk ∙ e)
+              ∙ value-none j (z .low j m)
+              ∙ held-before b k j (le-trans m order)
+              ∙ sym (held-before a k j m)
+          go false e (yes x) (no y) =
+              ap (λ (d : Bool). cond d (upTo k .entry k j) (value j)) (r .marked k lk ∙ e)
+              ∙ value-step j e x (lt-of-not-le y)
+              ∙ sym (held-after a k j x)
+          go false e (yes x) (yes y) =
+              ap (λ (d : Bool). cond d (upTo k .entry k j) (value j)) (r .marked k lk ∙ e)
+              ∙ value-none j (z .high j y l)
+              ∙ held-after b k j y
+              ∙ sym (held-after a k j x)
+
+      pub rows-step : Shows rows cols (upTo (k + 1)) mat′ rhs′
+      rows-step = shows-eq rows cols _ _ mat′ rhs′ (z .shows) (λ i j l m. go i j m (decEq i k) (decLe k i))
+        where
+          go : (i j : ℕ) → j ≤ cols → Dec (i ≡ k) → Dec (k ≤ i)
+              → clearedRow (getD used k false) w t (z .pivot) (z .part) c k (upTo k) .entry i j ≡ upTo (k + 1) .entry i j
+          go i j m (yes e) d = rw e (cleared-row j m ∙ sym (done-row (k + 1) k j (omega arith)))
+          go i j m (no e) (yes h) =
+              let l : k + 1 ≤ i = past (decLe (k + 1) i) in
+              cleared-other w t _ _ c k _ (getD used k false) i j e ∙ open-row k i j h ∙ sym (open-row (k + 1) i j l)
+            where
+              past : Dec (k + 1 ≤ i) → k + 1 ≤ i
+              past (yes l) = l
+              past (no l) = absurd (e (omega arith))
+          go i j m (no e) (no h) =
+              let l : i < k = lt-of-not-le h in
+              cleared-other w t _ _ c k _ (getD used k false) i j e ∙ done-row k i j l ∙ sym (done-row (k + 1) i j (omega arith))

@@ -74,7 +74,7 @@ module _ (w rows cols c : ℕ) (mat : List ℕ) (used : List Bool) (p : ℕ) (e 
     column-missing n lv =
         rw (add-one c)
         (record {
-          shows = shows-eq rows cols s _ mat rhs (h .shows) (λ i j l. sym (step-missing w rows s c i missing j (h .echelon .small i j)));
+          shows = shows-eq rows cols s _ mat rhs (h .shows) (λ i j l m. sym (step-missing w rows s c i missing j (h .echelon .small i j)));
           echelon = echelon-step w rows s c (h .echelon);
           marked =
               λ i l.
@@ -118,12 +118,6 @@ module _ (w rows cols c : ℕ) (mat : List ℕ) (used : List Bool) (p : ℕ) (e 
           marked = λ i l. column-marked lu i l ∙ sym (step-used w rows s c i);
           rows-eq = noted lv;
         })
-
--- of the notes only those of the columns that are done are read
-pub shown-noted : (w rows cols : ℕ) (s : State) (c : ℕ) (mat rhs : List ℕ) (used : List Bool) (piv piv′ : List ℕ)
-    → ((j : ℕ) → j < c → at piv′ j ≡ at piv j) → Shown w rows cols s c mat rhs used piv → Shown w rows cols s c mat rhs used piv′
-shown-noted w rows cols s c mat rhs used piv piv′ e h =
-    record { shows = h .shows; echelon = h .echelon; marked = h .marked; rows-eq = λ j l. e j l ∙ h .rows-eq j l }
 
 -- ---- all columns
 

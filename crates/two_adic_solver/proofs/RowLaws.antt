@@ -25,7 +25,7 @@ use Rattle.theory.specs.Pivots.{Found, Missing, lowest-cases}
 use Rattle.theory.specs.Trailing.{trailing-cut}
 use lib.Pow.{pow-pos}
 use lib.ListN.{length, getD, set, take, drop, length-set, List·getD-append, List·getD-eq-default}
-use lib.Seq.{getD-set-same, getD-set-other, length-take-le}
+use lib.Seq.{getD-set-same, getD-set-other, getD-take, length-take-le, length-front}
 use Rattle.meaning.specs.Tables.{at, tabulate}
 use Rattle.meaning.specs.Differences.{minus}
 use Rattle.meaning.specs.Elimination.{Lowest, lowest}
@@ -34,7 +34,7 @@ use Rattle.theory.specs.Words.{minus-masked, cong-of-pow}
 use Rattle.theory.specs.Congruence.{minus-cong}
 use Rattle.theory.specs.Tables.{length-tabulate, at-tabulate}
 use Rattle.theory.specs.Parts.{part, put, length-part, at-part, length-put, at-put-before, at-put-within, at-put-after}
-use Rattle.two_adic_solver.specs.Rows.{Subtracted, Spanned, heightOf}
+use Rattle.two_adic_solver.specs.Rows.{Subtracted, heightOf}
 
 -- ---- the search
 
@@ -259,35 +259,30 @@ span-step t n pos far e j h = go (eq-or-lt-of-le h)
     go (inl p) = ap (at t) (sym p) ∙ e
     go (inr p) = far j (omega arith)
 
--- copied to the start of a room
-pub spanned : (a e : ℕ) (t u ys : List ℕ) (n : ℕ) → a ≤ e → e ≤ length t → e - a ≤ length u → n ≤ length (part a e t)
-    → ((j : ℕ) → n ≤ j → at (part a e t) j ≡ 0) → ys ≡ cond (eqb (length (part a (a + n) t)) (length (take n u))) (part a (a + n) t) (take n u)
-    → Spanned a e t (ys ++ drop n u) n
-spanned a e t u ys n order fits room l zeros c =
-    record {
-      within = short;
-      copied =
-          λ k p.
-          List·getD-append ys (drop n u) 0 k (rw (ap length whole ∙ from) p)
-          ∙ ap (λ (y : List ℕ). at y k) whole
-          ∙ at-part a (a + n) t (omega (arith, short)) k (omega arith);
-      zeros =
-          λ j p q.
-          let back : a + (j - a) ≡ j = omega arith in
-          sym (at-part a e t fits (j - a) (omega arith) ∙ ap (at t) back) ∙ zeros (j - a) (omega arith);
-    }
-  where
-    size : length (part a e t) ≡ e - a
-    size = length-part a e t fits
+-- a part of a table that is 0 from its place n on
+pub span-zeros : (a e n : ℕ) (t : List ℕ) → e ≤ length t → ((j : ℕ) → n ≤ j → at (part a e t) j ≡ 0) → (j : ℕ) → a + n ≤ j → j < e → at t j ≡ 0
+span-zeros a e n t fits zeros j l m =
+    let back : a + (j - a) ≡ j = omega arith in
+    sym (at-part a e t fits (j - a) (omega arith) ∙ ap (at t) back) ∙ zeros (j - a) (omega arith)
 
-    short : a + n ≤ e
-    short = omega (arith, size)
+-- n numbers copied to the start of a room, which stays as long as it was
+module _ (a e n : ℕ) (t u ys : List ℕ) (end : a + n ≡ e) (fits : e ≤ length t) (room : n ≤ length u)
+    (c : ys ≡ cond (eqb (length (part a e t)) (length (take n u))) (part a e t) (take n u)) where
+  part-length : length (part a e t) ≡ n
+  part-length = length-part a e t fits ∙ omega arith
 
-    from : length (part a (a + n) t) ≡ n
-    from = length-part a (a + n) t (omega (arith, short)) ∙ omega arith
+  whole-part : ys ≡ part a e t
+  whole-part = c ∙ ap (λ (b : Bool). cond b (part a e t) (take n u)) (eq-eqb _ _ (part-length ∙ sym (length-take-le n u room)))
 
-    held : length (take n u) ≡ n
-    held = length-take-le n u (omega (arith, size))
+  pub copied-same : length (ys ++ drop n u) ≡ length u
+  copied-same = length-front u ys n (ap length whole-part ∙ part-length ∙ sym (length-take-le n u room))
 
-    whole : ys ≡ part a (a + n) t
-    whole = c ∙ ap (λ (b : Bool). cond b (part a (a + n) t) (take n u)) (eq-eqb _ _ (from ∙ sym held))
+  pub copied-length : length (take n (ys ++ drop n u)) ≡ n
+  copied-length = length-take-le n (ys ++ drop n u) (rw copied-same room)
+
+  pub copied-part : (k : ℕ) → k < n → at (take n (ys ++ drop n u)) k ≡ at t (a + k)
+  copied-part k p =
+      getD-take n (ys ++ drop n u) k 0 p
+      ∙ List·getD-append ys (drop n u) 0 k (rw (ap length whole-part ∙ part-length) p)
+      ∙ ap (λ (y : List ℕ). at y k) whole-part
+      ∙ at-part a e t fits k (omega arith)

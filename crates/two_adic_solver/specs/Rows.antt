@@ -15,12 +15,6 @@ pub record Subtracted (m q dst n : ℕ) (src : ℕ → ℕ) (t₀ t : List ℕ) 
   pub before : (j : ℕ) → j < dst → at t j ≡ at t₀ j
   pub after : (j : ℕ) → dst + n ≤ j → at t j ≡ at t₀ j
 
--- u begins with the n numbers of t from place a on, behind which t is 0 up to place e
-pub record Spanned (a e : ℕ) (t u : List ℕ) (n : ℕ) : Type 0 where
-  pub within : a + n ≤ e
-  pub copied : (k : ℕ) → k < n → at u k ≡ at t (a + k)
-  pub zeros : (j : ℕ) → a + n ≤ j → j < e → at t j ≡ 0
-
 -- the height of row i in column c, read off a matrix and the list of the used rows
 unfoldable pub heightOf : ℕ → ℕ → List ℕ → List Bool → ℕ → ℕ → ℕ
 heightOf w cols mat used c i = cond (getD used i false) w (twosIn w (at mat (i * cols + c)))

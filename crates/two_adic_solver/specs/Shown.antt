@@ -13,36 +13,46 @@ use Rattle.theory.specs.Elimination.{kept}
 use Rattle.theory.specs.Echelon.{Echelon}
 use Rattle.two_adic_solver.specs.ShownStates.{Shows}
 
--- row i, unless it is used, less the multiple of row p that clears column c
-unfoldable pub clearedRow : Bool → ℕ → ℕ → ℕ → ℕ → ℕ → State → State
-clearedRow used w t p c i s =
+-- row i, unless it is used, less the multiple of a row that clears column c where that row's entry, of t twos, is e; of the row only a part may be given
+unfoldable pub clearedRow : Bool → ℕ → ℕ → ℕ → (ℕ → ℕ) → ℕ → ℕ → State → State
+clearedRow used w t e part c i s =
     record {
       entry =
           λ k j.
           cond (eqb k i)
-          (cond used (s .entry i j) (minus (2 ^ w) (s .entry i j) (quotient w t (s .entry p c) (s .entry i c) * s .entry p j)))
+          (cond used (s .entry i j) (minus (2 ^ w) (s .entry i j) (quotient w t e (s .entry i c) * part j)))
           (s .entry k j);
       used = s .used;
       pivot = s .pivot;
     }
 
--- v is the inverse of the odd part of row p's entry in column c, which has t twos; `source` has row p from that column on, up to its last entry that
--- is not 0, and `side` its right side
-pub record PivotRow (w cols c p t v : ℕ) (source : List ℕ) (side : ℕ) (s : State) : Type 0 where
-  pub inverse-eq : v ≡ inverse (s .entry p c / 2 ^ t) (w - t)
-  pub entries : (k : ℕ) → k < length source → at source k ≡ s .entry p (c + k)
-  pub right : side ≡ s .entry p cols
-  pub before : (j : ℕ) → j < c → s .entry p j ≡ 0
-  pub after : (j : ℕ) → c + length source ≤ j → j < cols → s .entry p j ≡ 0
+-- v is the inverse of the odd part of the pivot e, which has t twos; `source` has the part's numbers from column d on, `side` its right side, and all
+-- others are 0
+pub record PivotPart (w cols d e t v : ℕ) (source : List ℕ) (side : ℕ) (part : ℕ → ℕ) : Type 0 where
+  pub inverse-eq : v ≡ inverse (e / 2 ^ t) (w - t)
+  pub entries : (k : ℕ) → k < length source → at source k ≡ part (d + k)
+  pub right : side ≡ part cols
+  pub before : (j : ℕ) → j < d → part j ≡ 0
+  pub after : (j : ℕ) → d + length source ≤ j → j < cols → part j ≡ 0
 
--- the first k rows after the step of column c, the others before it
-unfoldable pub upTo : ℕ → ℕ → State → ℕ → ℕ → State
-upTo w rows s c k =
+-- row i from column `bound i` on after the step of column c, all else before it
+unfoldable pub stepped : ℕ → ℕ → State → ℕ → (ℕ → ℕ) → State
+stepped w rows s c bound =
     record {
-      entry = λ i j. cond (ltb i k) (step w rows s c .entry i j) (s .entry i j);
+      entry = λ i j. cond (ltb j (bound i)) (s .entry i j) (step w rows s c .entry i j);
       used = s .used;
       pivot = s .pivot;
     }
+
+-- the tables show all rows from column `bound` on after the step of column c; from there down to `end` the pivot row p is 0, and `side` is its right side
+-- where right sides are still to be done, which then have a column beside them, else 0
+pub record Behind (w rows cols c p end side bound : ℕ) (s : State) (mat rhs : List ℕ) : Type 0 where
+  pub above : end ≤ bound
+  pub zeros : (j : ℕ) → end ≤ j → j < bound → j < cols → s .entry p j ≡ 0
+  pub inside : cols < bound → side ≡ s .entry p cols
+  pub outside : bound ≤ cols → side ≡ 0
+  pub begun : cols < bound → c < end
+  pub shows : Shows rows cols (stepped w rows s c (λ i. bound)) mat rhs
 
 -- column c is next, p is its pivot row, and the rows that stay are marked
 pub record Clearing (w rows c p : ℕ) (used : List Bool) (s : State) : Type 0 where

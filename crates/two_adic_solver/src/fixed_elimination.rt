@@ -81,7 +81,8 @@ fn clear_row(
         → Shows (length (now (right .entry))) 4 s (joined (now (matrix .entry))) (now (right .entry))
         → v ≡ inverse (s .entry pivot column / 2 ^ twos) (bitwidth - twos)
         → ((j : ℕ) → s .entry row j < 2 ^ bitwidth) → ((j : ℕ) → j < column → s .entry pivot j ≡ 0)
-        → Shows (length (now (right .entry))) 4 (clearedRow used bitwidth twos pivot column row s) (joined (now (matrix .exit))) (now (right .exit))) ⌝ }
+        → Shows (length (now (right .entry))) 4 (clearedRow used bitwidth twos (s .entry pivot column) (s .entry pivot) column row s)
+        (joined (now (matrix .exit))) (now (right .exit))) ⌝ }
 {
     if used {
         return;

@@ -1,4 +1,4 @@
-// The room that a system needs besides its lent tables, the marks of the used rows, in two sizes.
+// Room for the marks of the used rows, in two sizes.
 ghost use mathlib.Core.Path.{_≡_};
 ghost use Prim.Native.Nat.{_*_, _≤_, _<_};
 ghost use lib.ListN.{length};

@@ -9,7 +9,7 @@ ghost use Rattle.meaning.specs.Factorials.{twosIn};
 ghost use Rattle.meaning.specs.Inverses.{inverse};
 ghost use Rattle.meaning.specs.Differences.{minus};
 ghost use Rattle.meaning.specs.Elimination.{lowest};
-ghost use Rattle.two_adic_solver.specs.Rows.{Spanned, heightOf};
+ghost use Rattle.two_adic_solver.specs.Rows.{heightOf};
 use answers::Number;
 
 // Every number modulo 2^bitwidth.
@@ -144,16 +144,6 @@ pub(crate) fn span(list: &[u64]) -> usize
         n -= 1;
     }
     0
-}
-
-// Copies the numbers from `place` to `end`, up to the last that is not 0, to the start of `room`. The result is how many they are.
-pub(crate) fn copy_span(matrix: &[u64], place: usize, end: usize, room: &mut [u64]) -> usize
-    requires { ⌜ (place ≤ end) × (end ≤ length (now matrix)) × (end - place ≤ length (now room)) ⌝ }
-    ensures { λ r. ⌜ Spanned place end (now (matrix .entry)) (now (room .exit)) r ⌝ }
-{
-    let count = span(&matrix[place..end]);
-    tables::copy(&matrix[place..place + count], &mut room[..count]);
-    count
 }
 
 // A row's part less q times the pivot row's, modulo 2^bitwidth.

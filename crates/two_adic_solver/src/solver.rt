@@ -15,7 +15,8 @@ use crate::substitution;
 use answers::Outcome;
 use answers::Refusal;
 
-// Reduces both tables modulo 2^bitwidth and eliminates; `answer` ends with the pivot rows. No row is marked before.
+// Reduces both tables modulo 2^bitwidth and eliminates; `answer` ends with the pivot rows. No row is marked before. The room for parts of a pivot row is a
+// local array: that it lies apart from the lent tables the compiler need not test.
 fn eliminate_tables(
     matrix: &mut [u64],
     right: &mut [u64],
@@ -33,7 +34,8 @@ fn eliminate_tables(
 {
     rows::reduce(matrix, bitwidth);
     rows::reduce(right, bitwidth);
-    elimination::eliminate(matrix, right, used, answer, columns, bitwidth);
+    let mut room = [0u64; 256];
+    elimination::eliminate(matrix, right, used, answer, &mut room, columns, bitwidth);
 }
 
 // The tests after the elimination, and back-substitution: `answer` has the pivot rows at first, and the values at last.

@@ -49,10 +49,10 @@ module _ (f : Fit) where
       go (suc n) b q h = absurd (suc-ne-zero n h)
 
   -- the room in each case
-  pub fit-room-turned : (r : Refusal) → fitSettingsNumber f ≡ code r → fitRoomOf (code r) 0 0 ≡ fitRoom f
+  pub fit-room-turned : (r : Refusal) → fitSettingsNumber f ≡ code r → fitRoomTold (code r) 0 0 0 ≡ fitRoom f
   unfolding fitRoom
   fit-room-turned r e =
-      ap (λ (n : ℕ). fitRoomOf n 0 0) (code-suc r)
+      ap (λ (n : ℕ). fitRoomTold n 0 0 0) (code-suc r)
       ∙ sym (ap (λ (n : ℕ). fitRoomOf n (fitRows f) (length (fitColumns f))) (e ∙ code-suc r))
 
   pub fit-room-passed : (r c : ℕ) → fitSettingsNumber f ≡ 0 → r ≡ fitRows f → c ≡ length (fitColumns f) → fitRoomOf 0 r c ≡ fitRoom f
@@ -60,7 +60,7 @@ module _ (f : Fit) where
   fit-room-passed r c e p q = ap₂ (fitRoomOf 0) p q ∙ sym (ap (λ (n : ℕ). fitRoomOf n (fitRows f) (length (fitColumns f))) e)
 
   -- and what an answer that says it tells
-  pub told-turned : (r : Refusal) → fitRoomOf (code r) 0 0 ≡ fitRoom f → fitSettingsNumber f ≡ code r
+  pub told-turned : (r : Refusal) → fitRoomTold (code r) 0 0 0 ≡ fitRoom f → fitSettingsNumber f ≡ code r
   unfolding fitRoom
   told-turned r e = sym (ap (λ (x : FitRoom). x .number) e)
 

@@ -5,7 +5,7 @@ use lib.ListN.{length}
 use Rattle.meaning.specs.Replies.{Reply}
 use Rattle.meaning.specs.Calls.{reply}
 use Rattle.meaning.specs.Fit.{Fit, fitOf, fitColumns, fitSettingsNumber}
-use Rattle.meaning.specs.Counts.{FitRoom, fitRoomOf}
+use Rattle.meaning.specs.Counts.{FitRoom}
 use Rattle.answers.specs.Said.{code}
 use Rattle.weighted_poly_fit.specs.declared.sizes.FitRoom as answer
 
@@ -20,7 +20,7 @@ fitRoomTold n r c e = record { number = n; row-count = r; column-count = c; entr
 -- the number and the counts that an answer says
 abbrev pub fitRoomSaid : answer.FitRoom → FitRoom
 fitRoomSaid (answer.FitRoom.Counts r c e) = fitRoomTold 0 r c e
-fitRoomSaid (answer.FitRoom.Refused r) = fitRoomOf (code r) 0 0
+fitRoomSaid (answer.FitRoom.Refused r) = fitRoomTold (code r) 0 0 0
 
 -- the number of columns
 abbrev pub columnsReply : Fit → Reply

@@ -1,49 +1,64 @@
--- The loop: the first `row` rows are as after the column's step, the others as before it. The copy of the pivot row stays that of the matrix, since the
--- pivot row, which is marked, is not altered (`pivot-row`).
+-- The loop: the parts behind `end` are done, whatever state the tables showed; at first that is none, and the pivot row is 0 behind its last entry that is not.
 use borrow.Author.Needs.{needs}
-use mathlib.Core.Path.{refl, sym, ap, _∙_}
+use mathlib.Core.Path.{_≡_, refl, sym, ap, _∙_}
 use native.Mathlib.Omega.{arith}
 use Prim.Native.Nat.{_+_, _*_, _-_, _≤_, _<_}
 use lib.ListN.{length}
-use lib.Seq.{length-take-le}
+use Rattle.theory.specs.Parts.{part, length-part}
 use Rattle.theory.specs.Trailing.{twosIn-left-odd}
-use Rattle.two_adic_solver.proofs.ClearLaws.{place-lt, row-to-end}
-use Rattle.two_adic_solver.proofs.ClearedLaws.{Cleared, cleared-start, cleared-step, cleared-done, pivot-row}
+use Rattle.two_adic_solver.proofs.ClearLaws.{place-lt, row-fits}
+use Rattle.two_adic_solver.proofs.PartLaws.{Parted, parted-start, parted-step, parted-done}
 use Rattle.two_adic_solver.proofs.elimination.clear_column.Statement.{statement}
 use Rattle.two_adic_solver.proofs.elimination.clear_column.Tie as tie
 
 abbrev Inv-loop : tie.InvT-loop
-Inv-loop matrix₀ right₀ used room columns column pivot bitwidth start entry twos v count side row₀ matrix right row = Cleared bitwidth columns column pivot
-    used matrix₀ right₀ matrix right row
+Inv-loop matrix₀ right₀ used room₀ columns column pivot bitwidth start entry twos v side₀ end₀ matrix right room side end =
+    Parted bitwidth columns column pivot used matrix₀ right₀ matrix right side end × (length room ≡ length room₀)
 
 abbrev μ-loop : tie.MeasureT-loop
-μ-loop matrix₀ right₀ used room columns column pivot bitwidth start entry twos v count side row₀ matrix right row = length right₀ - row
+μ-loop matrix₀ right₀ used room₀ columns column pivot bitwidth start entry twos v side₀ end₀ matrix right room side end = end - column
 
--- the pivot's entry lies in the matrix, and so does the pivot row from there on
+-- the start, where the twos, the inverse and the span are known, where a part begins, and where it is cleared
+abbrev started : tie.After-slice-known3 Inv-loop μ-loop → tie.Start Inv-loop μ-loop
+started c = c .before .before .before .before
+
+abbrev twos-of : tie.After-pivot-inverse Inv-loop μ-loop → tie.After-height Inv-loop μ-loop
+twos-of c = c .before
+
+abbrev begun : tie.After-height Inv-loop μ-loop → tie.Start Inv-loop μ-loop
+begun c = started (c .before .before)
+
+abbrev inverse-of : tie.After-span Inv-loop μ-loop → tie.After-pivot-inverse Inv-loop μ-loop
+inverse-of c = c .before .before .before .before
+
+abbrev origin : tie.At-loop Inv-loop μ-loop → tie.Start Inv-loop μ-loop
+origin b = begun (twos-of (inverse-of (b .before)))
+
+abbrev chosen : tie.After-clear-part Inv-loop μ-loop → tie.After-part-start Inv-loop μ-loop
+chosen c = c .before .before .before .before
+
+abbrev called : tie.After-slice-known8 Inv-loop μ-loop → tie.After-clear-part Inv-loop μ-loop
+called c = c .before .before .before .before .before .before
+
+-- the pivot's entry lies in the matrix, and so does the pivot row
 place : (s : tie.Start Inv-loop μ-loop) → s .args .pivot * s .args .columns + s .args .column < length (s .args .matrix .now)
 place s = place-lt (length (s .args .right .now)) (s .args .columns) _ (s .pre .0 .0) (s .args .pivot) (s .args .column) (s .pre .0 .3) (s .pre .0 .2)
 
-row-end : (s : tie.Start Inv-loop μ-loop)
-    → s .args .pivot * s .args .columns + s .args .column + (s .args .columns - s .args .column) ≤ length (s .args .matrix .now)
-row-end s = row-to-end (length (s .args .right .now)) (s .args .columns) _ (s .pre .0 .0) (s .args .pivot) (s .args .column) (s .pre .0 .3) (s .pre .0 .2)
+row-end : (s : tie.Start Inv-loop μ-loop) → s .args .pivot * s .args .columns + s .args .columns ≤ length (s .args .matrix .now)
+row-end s =
+    let a = s .args in
+    let l : a .columns + 0 ≤ a .columns = omega arith in
+    let f = row-fits (length (a .right .now)) (a .columns) _ (s .pre .0 .0) (a .pivot) (a .columns) 0 (s .pre .0 .3) l in
+    omega (arith, f)
 
--- where the twos are known, the start, and where the row is copied
-abbrev twos-of : tie.After-copy-span Inv-loop μ-loop → tie.After-height Inv-loop μ-loop
-twos-of c = c .before .before .before .before
-
-abbrev started : tie.After-height Inv-loop μ-loop → tie.Start Inv-loop μ-loop
-started c = c .before .before .before .before .before .before
-
-abbrev copied : tie.At-loop Inv-loop μ-loop → tie.After-copy-span Inv-loop μ-loop
-copied b = b .before .before .before .before
-
--- the copy fits the room
-held : (c : tie.After-copy-span Inv-loop μ-loop)
-    → (c .copy-span .result ≤ length (c .copy-span .last .1 .1 .1 .0)) × (started (twos-of c) .args .column + c .copy-span .result ≤ started (twos-of c) .args .columns)
-held c =
-    let s = started (twos-of c) in
-    let w = c .copy-span .ensures .within in
-    (omega (arith, w, s .pre .1 .3, s .pre .0 .2), omega (arith, w))
+-- the entries up to the last that is not 0
+span-end : (c : tie.After-span Inv-loop μ-loop) →
+    let a = begun (twos-of (inverse-of c)) .args in a .column + c .span .result ≤ a .columns
+span-end c =
+    let s = begun (twos-of (inverse-of c)) in
+    let a = s .args in
+    let size = length-part (a .pivot * a .columns + a .column) (a .pivot * a .columns + a .columns) (a .matrix .now) (row-end s) in
+    omega (arith, c .span .ensures .0, size, s .pre .0 .2)
 
 pub clear-column-spec : {M : Type 1} → statement M
 clear-column-spec =
@@ -51,63 +66,69 @@ clear-column-spec =
     (tie.spec
     Inv-loop
     μ-loop
-    (λ c. let l = place (c .before .before .before .before) in search needs)
-    (λ c. let l = place (c .before .before .before .before) in search needs)
-    (λ c. let l = place (c .before .before .before .before) in search needs)
-    (λ c. place (c .before .before .before .before .before))
+    (λ c. let l = place (started c) in search needs)
+    (λ c. let l = place (started c) in search needs)
+    (λ c. let l = place (started c) in search needs)
+    (λ c. place (started (c .before)))
     (λ c κs. search needs)
     (λ c κs.
-    let s = started c in
+    let s = begun c in
     rw (c .height .ensures) (s .pre .1 .1, s .pre .1 .2, twosIn-left-odd (s .args .bitwidth) _ (s .pre .1 .1)))
-    (λ c. let f = row-end (started (c .before .before)) in search needs)
-    (λ c. let f = row-end (started (c .before .before)) in search needs)
-    (λ c κs.
-    let s = started (c .before .before .before) in
-    let f = row-end s in
-    (omega (arith, s .pre .0 .2), omega (arith, f, s .pre .0 .2), omega (arith, s .pre .1 .3)))
-    (λ c. search needs) (λ c. search needs)
-    (λ c. cleared-start _ _ _ _ _ _ _ (started (twos-of (c .before .before .before)) .pre .0 .3))
-    (λ c. held (copied (c .before .before .before)) .0)
-    (λ c. sym (length-take-le _ _ (held (copied (c .before .before .before .before)) .0)))
-    (λ c.
-    let i = c .before .before .before .before in
-    let s = started (twos-of (copied (i .before))) in
-    omega (arith, s .pre .1 .0, i .before .loop .inv .same-right, i .loop-test .taken))
-    (λ c κs.
-    let i = c .before .before .before .before in
-    let v = i .before .loop .inv in
-    let o = copied (i .before) in
-    let s = started (twos-of o) in
-    let size = length-take-le (o .copy-span .result) (o .copy-span .last .1 .1 .1 .0) (held o .0) in (
-      (
-        v .same-matrix ∙ s .pre .0 .0 ∙ ap (_* s .args .columns) (sym (v .same-right)),
-        omega (arith, v .same-matrix, s .pre .0 .1),
-        s .pre .0 .2,
-        i .loop-test .taken,
-      ),
-      (rw (twos-of o .height .ensures) (s .pre .1 .1), s .pre .1 .2, omega (arith, size, held o .1)),
-    ))
-    (λ c. search needs) (λ c. search needs)
-    (λ c.
-    let k = c .before .before .before .before in
-    let i = k .before .before .before .before .before in
-    let b = i .before in
-    let o = copied b in
-    let t = twos-of o in
-    let s = started t in
-    let a = s .args in
-    let v = o .before .before .before in
-    cleared-step _ _ _ _ _ _ _ (s .pre .0 .3) (s .pre .0 .2) _ (t .height .result) (v .pivot-inverse .result) refl (t .height .ensures)
-    (v .pivot-inverse .ensures) (b .loop .matrix) (b .loop .right) (k .clear-row .last .0) (k .clear-row .last .1 .0) (b .loop .row) (b .loop .inv)
-    (i .loop-test .taken) (omega arith) (omega arith)
-    (λ u h e small zeros row right.
-    k .clear-row .ensures u (a .pivot) h
-    (pivot-row _ (a .columns) (a .column) (a .pivot) _ _ (o .copy-span .result) (a .matrix .now) (a .right .now) (o .copy-span .last .1 .1 .1 .0)
-    (o .copy-span .ensures) (held o .0) u e zeros row right) small))
-    (λ c. c .before .loop .inv .same-matrix)
-    (λ c. c .before .loop .inv .same-right)
+    (λ c. let l = place (begun (twos-of c)) in search needs)
     (λ c. search needs)
+    (λ c. let l = row-end (begun (twos-of (c .before))) in search needs)
+    (λ c. let l = row-end (begun (twos-of (c .before))) in search needs)
+    (λ c. let l = row-end (begun (twos-of (c .before))) in search needs)
+    (λ c. search needs) (λ c. search needs)
+    (λ c. row-end (begun (twos-of (c .before .before))))
+    (λ c κs. search needs)
+    (λ c. let l = span-end c in search needs)
+    (λ c.
+    let s = begun (twos-of (inverse-of c)) in
+    (parted-start _ _ _ _ _ _ _ (s .pre .0 .3) (s .pre .0 .2) (c .span .result) (row-end s) (s .pre .1 .1) (span-end c) (c .span .ensures .1), refl))
+    (λ c κs. (c .loop-test .taken, omega (arith, c .before .loop .inv .1, origin (c .before) .pre .1 .3)))
+    (λ c κs.
+    let f = c .before .before .before in
+    let i = f .before in
+    let v = i .before .loop .inv in
+    let h = twos-of (inverse-of (i .before .before)) in
+    let s = begun h in
+    let g = f .part-start .ensures in (
+      (
+        v .0 .same-matrix ∙ s .pre .0 .0 ∙ ap (_* s .args .columns) (sym (v .0 .same-right)),
+        omega (arith, v .0 .same-matrix, s .pre .0 .1),
+        s .pre .0 .2,
+        omega (arith, v .0 .same-right, s .pre .0 .3),
+      ),
+      (
+        omega (arith, v .0 .same-right, s .pre .1 .0),
+        rw (h .height .ensures) (s .pre .1 .1),
+        s .pre .1 .2,
+        g .0,
+        g .1,
+        v .0 .high,
+        g .2,
+      ),
+    ))
+    (λ c. let g = chosen (called c) .part-start .ensures in omega (arith, g .0, g .1))
+    (λ c.
+    let k = called c in
+    let f = chosen k in
+    let b = f .before .before in
+    let u = inverse-of (b .before) in
+    let h = twos-of u in
+    let s = begun h in
+    let g = f .part-start .ensures in
+    let t = k .clear-part in (
+      parted-step _ _ _ _ _ _ _ (s .pre .0 .3) (s .pre .0 .2) _ (h .height .result) (u .pivot-inverse .result) refl (h .height .ensures)
+          (u .pivot-inverse .ensures) (b .loop .matrix) (b .loop .right) (t .last .0) (t .last .1 .0) (b .loop .side) (b .loop .end)
+          (f .part-start .result) (b .loop .inv .0) (g .0) (g .1) (omega arith) (omega arith) (t .ensures),
+      omega (arith, b .loop .inv .1),
+    ))
+    (λ c. c .before .loop .inv .0 .same-matrix)
+    (λ c. c .before .loop .inv .0 .same-right)
+    (λ c. c .before .loop .inv .1)
     (λ c.
     let b = c .before in
-    cleared-done _ _ _ _ _ _ _ (started (twos-of (copied b)) .pre .0 .3) (b .loop .matrix) (b .loop .right) (b .loop .row) (b .loop .inv)
-    (c .loop-test .left)))
+    let p = origin b .pre in
+    parted-done _ _ _ _ _ _ _ (p .0 .3) (p .0 .2) (b .loop .matrix) (b .loop .right) (b .loop .side) (b .loop .end) (b .loop .inv .0) (c .loop-test .left)))

@@ -9,14 +9,14 @@ use Rattle.two_adic_solver.proofs.ClearLaws.{row-used, row-zero, row-su
 use Rattle.two_adic_solver.proofs.elimination.clear_row.Statement.{statement}
 use Rattle.two_adic_solver.proofs.elimination.clear_row.Tie as tie
 
--- the row's entry in the column lies in the matrix, and so do as many from there on as are subtracted
+-- the row's entry in the column lies in the matrix, and so does its part that is subtracted from
 place : (s : tie.Start) → s .args .row * s .args .columns + s .args .column < length (s .args .matrix .now)
 place s = place-lt (length (s .args .right .now)) (s .args .columns) _ (s .pre .0 .0) (s .args .row) (s .args .column) (s .pre .0 .3) (s .pre .0 .2)
 
 part-end : (s : tie.Start)
-    → s .args .row * s .args .columns + s .args .column + length (s .args .source .now) ≤ length (s .args .matrix .now)
+    → s .args .row * s .args .columns + s .args .from + length (s .args .source .now) ≤ length (s .args .matrix .now)
 part-end s =
-    row-fits (length (s .args .right .now)) (s .args .columns) _ (s .pre .0 .0) (s .args .row) (s .args .column) _ (s .pre .0 .3) (s .pre .1 .2)
+    row-fits (length (s .args .right .now)) (s .args .columns) _ (s .pre .0 .0) (s .args .row) (s .args .from) _ (s .pre .0 .3) (s .pre .1 .2)
 
 abbrev started : tie.Else1 → tie.Start
 started c = c .before .before .before .before
@@ -25,7 +25,7 @@ pub clear-row-spec : {M : Type 1} → statement M
 clear-row-spec =
     tie.close
     (tie.spec
-    (λ c. λ st p h r small. row-used _ _ _ _ _ st _ _ _ _ h (c .before .before .before .before .args .used) (c .if1 .taken))
+    (λ c. λ st x part h r small. row-used _ _ x part _ _ st _ _ _ _ h (c .before .before .before .before .args .used) (c .if1 .taken))
     (λ c. let l = place (started c) in search needs)
     (λ c. let l = place (started c) in search needs)
     (λ c. let l = place (started c) in search needs)
@@ -33,8 +33,9 @@ clear-row-spec =
     (λ c.
     let e = c .before .before in
     let s = started e in
-    λ st p h r small. row-zero _ _ _ _ _ st _ _ _ _ h (s .args .used) (e .if1 .left) small (s .pre .0 .3) (s .pre .0 .2) (c .if2 .taken))
+    λ st x part h r small. row-zero _ _ x part _ _ st _ _ _ _ h (s .args .used) (e .if1 .left) small (s .pre .0 .3) (s .pre .0 .2) (c .if2 .taken))
     (λ c κs. search needs)
+    (λ c. let l = part-end (started (c .before .before .before)) in search needs)
     (λ c. let l = part-end (started (c .before .before .before)) in search needs)
     (λ c. let l = part-end (started (c .before .before .before)) in search needs)
     (λ c. search needs) (λ c. search needs)
@@ -47,10 +48,10 @@ clear-row-spec =
     let e = q .before .before .before in
     let s = started e in
     let a = s .args in
-    λ st p h r small.
-    row-subtracted _ _ _ _ _ st _ _ _ _ h (a .used) (e .if1 .left) small (length (a .source .now)) (r .before) (r .after)
+    λ st x part h r small.
+    row-subtracted _ _ x part _ _ st _ _ _ _ h (a .used) (e .if1 .left) small (a .from) (length (a .source .now)) (r .before) (r .after)
     (at (a .source .now)) (r .entries) (a .side) (r .right) (s .pre .0 .3) (s .pre .1 .2) (q .multiplier .result)
-    (quotient-told _ _ (st .entry p (a .column)) _ _ (a .v) _ (q .multiplier .ensures) (h .entries (a .row) (a .column) (s .pre .0 .3) (s .pre .0 .2))
+    (quotient-told _ _ x _ _ (a .v) _ (q .multiplier .ensures) (h .entries (a .row) (a .column) (s .pre .0 .3) (s .pre .0 .2))
     (r .inverse-eq)) _
-    (subtracted-part _ _ (a .row * a .columns + a .column) (length (a .source .now)) (a .source .now) (a .matrix .now) _ (part-end s)
+    (subtracted-part _ _ (a .row * a .columns + a .from) (length (a .source .now)) (a .source .now) (a .matrix .now) _ (part-end s)
     (k .subtract-row .ensures)) _ (c .less .ensures)))

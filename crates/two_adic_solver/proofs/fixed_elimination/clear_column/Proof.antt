@@ -1,23 +1,24 @@
 -- The loop: the matrix is four by four, and its first `row` rows are as after the column's step.
 use Rattle.two_adic_solver.proofs.fixed_elimination.clear_column.Statement.{statement}
-use mathlib.Core.Path.{sym, _∙_}
+use mathlib.Core.Path.{_≡_, refl, sym, _∙_}
 use mathlib.Core.List.{[]}
-use Prim.Native.Nat.{_-_, _<_, _≤_}
+use Prim.Native.Nat.{ℕ, _+_, _*_, _-_, _<_, _≤_}
 use native.Mathlib.Omega.{arith}
 use lib.ListN.{length, getD}
 use Rattle.meaning.specs.Tables.{at}
 use Rattle.meaning.specs.Factorials.{twosIn}
-use Rattle.meaning.specs.Elimination.{joined}
+use Rattle.meaning.specs.Elimination.{State, joined}
 use Rattle.theory.specs.Trailing.{twosIn-left-odd}
 use Rattle.two_adic_solver.specs.Fixed.{Square}
-use Rattle.two_adic_solver.proofs.ClearedLaws.{Cleared, cleared-start, cleared-step, cleared-done}
+use Rattle.two_adic_solver.proofs.RowLoops.{Bounded, Whole, Cleared, cleared-start, cleared-step, cleared-done, whole-bounded, whole-row, whole-done}
 use Rattle.two_adic_solver.proofs.FixedLaws.{joined-length, joined-entry, low-entry}
 use borrow.Author.Needs.{needs}
 use Rattle.two_adic_solver.proofs.fixed_elimination.clear_column.Tie as tie
 
 abbrev Inv-loop : tie.InvT-loop
 Inv-loop matrix₀ right₀ used column pivot bitwidth entry twos v row₀ matrix right row =
-    Square matrix × Cleared bitwidth 4 column pivot used (joined matrix₀) right₀ (joined matrix) right row
+    Square matrix × Cleared bitwidth 4 column column (Whole bitwidth 4 column pivot used (joined matrix₀) right₀) (joined matrix₀) right₀
+    (joined matrix) right row
 
 abbrev μ-loop : tie.MeasureT-loop
 μ-loop matrix₀ right₀ used column pivot bitwidth entry twos v row₀ matrix right row = 4 - row
@@ -49,6 +50,19 @@ low s = low-entry (s .pre .0 .0) _ (s .args .pivot) (s .args .column) (s .pre .0
 pivot-lt : (s : tie.Start Inv-loop μ-loop) → s .args .pivot < length (s .args .right .now)
 pivot-lt s = omega (arith, s .pre .0 .1, s .pre .0 .4)
 
+-- its entry is that of the rows one behind the other, so that each state that they show is as the loop needs it
+entry-eq : (s : tie.Start Inv-loop μ-loop) →
+    let a = s .args in at (getD (a .matrix .now) (a .pivot) []) (a .column) ≡ at (joined (a .matrix .now)) (a .pivot * 4 + a .column)
+entry-eq s = sym (joined-entry (s .pre .0 .0) (s .args .pivot) (s .args .column) (s .pre .0 .4) (s .pre .0 .3))
+
+bounded : (h : tie.After-height Inv-loop μ-loop) →
+    let a = start h .args in
+    (s : State) (b : ℕ) → Whole (a .bitwidth) 4 (a .column) (a .pivot) (a .used .now) (joined (a .matrix .now)) (a .right .now) s b
+    → Bounded (a .bitwidth) 4 (a .column) (a .pivot) (a .column) (h .height .result) (a .used .now) (joined (a .matrix .now)) (a .right .now) s b
+bounded h s b z =
+    let i = start h in
+    whole-bounded _ _ _ _ _ _ _ _ _ (pivot-lt i) (i .pre .0 .3) (entry-eq i) s b z (h .height .ensures)
+
 pub clear-column-spec : {M : Type 1} → statement M
 clear-column-spec =
     tie.close
@@ -60,7 +74,7 @@ clear-column-spec =
     (λ c κs.
     let s = start c in
     rw (c .height .ensures) (low s, s .pre .1 .1, twosIn-left-odd (s .args .bitwidth) _ (low s)))
-    (λ c. let s = start (twos-of c) in (s .pre .0 .0, cleared-start _ _ _ _ _ _ _ (pivot-lt s)))
+    (λ c. let h = twos-of c in let s = start h in (s .pre .0 .0, cleared-start _ _ _ _ _ _ _ _ _ _ (pivot-lt s) (bounded h)))
     (λ c. let i = turn c in omega (arith, begun (i .before) .pre .0 .2, i .loop-test .taken))
     (λ c κs.
     let t = turn c in
@@ -81,16 +95,23 @@ clear-column-spec =
     let p = s .pre in
     let lr : b .loop .row < length (b .loop .right) = omega (arith, i .1 .same-right, p .0 .1, t .loop-test .taken) in (
       k .ensures .0,
-      cleared-step _ _ _ _ _ _ _ (pivot-lt s) (p .0 .3) _ (h .height .result) (v .pivot-inverse .result)
-          (sym (joined-entry (p .0 .0) (s .args .pivot) (s .args .column) (p .0 .4) (p .0 .3))) (h .height .ensures) (v .pivot-inverse .ensures)
-          (joined (b .loop .matrix)) (b .loop .right) (joined (k .last .0)) (k .last .1 .0) (b .loop .row) (i .1) lr
+      cleared-step _ _ _ _ _ _ _ _ _ _ (pivot-lt s) (bounded h) (joined (b .loop .matrix)) (b .loop .right) (joined (k .last .0)) (k .last .1 .0)
+          (b .loop .row) (i .1) lr
           (joined-length (k .ensures .0) ∙ sym (joined-length (i .0))) (omega arith)
-          (λ u h e small zeros row right. k .ensures .1 u h e small zeros),
+          (λ st n u z g stays small.
+          whole-row _ _ _ _ _ _ _ _ _ (pivot-lt s) (p .0 .3) (entry-eq s) st n z (v .pivot-inverse .result) _ _ u _ _
+          (v .pivot-inverse .ensures) stays (λ e zeros. k .ensures .1 u g e small zeros)),
     ))
     (λ c. c .before .loop .inv .1 .same-right)
     (λ c.
     let b = c .before in
-    let s = begun b in
+    let h = twos-of (inverse-of b) in
+    let s = start h in
     let i = b .loop .inv in
-    let done : length (b .loop .right) ≤ b .loop .row = omega (arith, i .1 .same-right, s .pre .0 .1, c .loop-test .left) in
-    (i .0, cleared-done _ _ _ _ _ _ _ (pivot-lt s) (joined (b .loop .matrix)) (b .loop .right) (b .loop .row) (i .1) done)))
+    let done : length (b .loop .right) ≤ b .loop .row = omega (arith, i .1 .same-right, s .pre .0 .1, c .loop-test .left) in (
+      i .0,
+      λ st g z.
+          whole-done _ _ _ _ _ _ st z (pivot-lt s) (s .pre .0 .3) _ _
+          (cleared-done _ _ _ _ _ _ _ _ _ _ (pivot-lt s) (bounded h) (joined (b .loop .matrix)) (b .loop .right) (b .loop .row) (i .1) done st 5
+          (record { shows = g; clearing = z; bound = refl })),
+    )))

@@ -40,14 +40,14 @@ clear-row-spec =
     (tie.spec
     (λ c.
     let s = c .before .before in
-    (s .pre .0 .0, λ st h ev small zeros. row-used _ _ _ _ _ st _ _ _ _ h (s .args .used) (c .if1 .taken)))
+    (s .pre .0 .0, λ st h ev small zeros. row-used _ _ _ _ _ _ st _ _ _ _ h (s .args .used) (c .if1 .taken)))
     (λ c. search needs) (λ c. search needs) (λ c. search needs) (λ c. search needs)
     (λ c.
     let e = c .before .before in
     let s = start e in (
       s .pre .0 .0,
       λ st h ev small zeros.
-          row-zero _ _ _ _ _ st _ _ _ _ h (s .args .used) (e .if1 .left) small (row-lt s) (s .pre .0 .2) (same s ∙ c .if2 .taken),
+          row-zero _ _ _ _ _ _ st _ _ _ _ h (s .args .used) (e .if1 .left) small (row-lt s) (s .pre .0 .2) (same s ∙ c .if2 .taken),
     ))
     (λ c κs. search needs) (λ c κs. search needs)
     (λ c. search needs) (λ c. search needs) (λ c. search needs) (λ c. search needs)
@@ -63,7 +63,7 @@ clear-row-spec =
     let lp : a .pivot < length (a .right .now) = omega (arith, p .0 .1, p .0 .3) in (
       k .subtract-row .ensures .0,
       λ st h ev small zeros.
-          row-subtracted _ _ _ _ _ st _ _ _ _ h (a .used) (e .if1 .left) small (4 - a .column) zeros
+          row-subtracted _ _ _ _ _ _ st _ _ _ _ h (a .used) (e .if1 .left) small (a .column) (4 - a .column) zeros
           (λ j l m. absurd (lt-irrefl j (omega (arith, l, m)))) _ (shown-from _ _ st _ _ h (a .pivot) (a .column) lp) _
           (h .rights (a .pivot) lp) (row-lt s) (omega (arith, p .0 .2)) (q .multiplier .result)
           (quotient-told _ _ (st .entry (a .pivot) (a .column)) _ _ (a .v) _ (q .multiplier .ensures)

@@ -10,8 +10,8 @@ use Rattle.two_adic_solver.proofs.solver.eliminate_tables.Statement.{st
 use Rattle.two_adic_solver.proofs.solver.eliminate_tables.Tie as tie
 
 -- the right side reduced, the matrix reduced, the start, and the call of `eliminate`
-abbrev right-reduced : tie.After-eliminate-arg4 → tie.After-reduce2
-right-reduced c = c .before .before .before .before .before .before
+abbrev right-reduced : tie.After-room → tie.After-reduce2
+right-reduced c = c .before .before .before .before .before .before .before
 
 abbrev matrix-reduced : tie.After-reduce2 → tie.After-reduce
 matrix-reduced c = c .before .before .before .before
@@ -19,14 +19,15 @@ matrix-reduced c = c .before .before .before .before
 abbrev start : tie.After-reduce → tie.Start
 start c = c .before .before .before .before .before .before
 
-abbrev called : tie.After-slice-known10 → tie.After-eliminate
-called c = c .before .before .before .before .before .before .before .before
+abbrev called : tie.After-room2 → tie.After-eliminate
+called c = c .before .before .before .before .before .before .before .before .before
 
 pub eliminate-tables-spec : {M : Type 1} → statement M
 eliminate-tables-spec =
     tie.close
     (tie.spec
     (λ c κs. search needs) (λ c κs. search needs)
+    (λ c. search needs)
     (λ c κs.
     let r = right-reduced c in
     let m = matrix-reduced r in
@@ -34,7 +35,7 @@ eliminate-tables-spec =
     let lm : length (m .reduce .last .0) ≡ length (s .args .matrix .now) = ap length (m .reduce .ensures) ∙ length-tabulate _ _ in
     let lr : length (r .reduce2 .last .0) ≡ length (s .args .right .now) = ap length (r .reduce2 .ensures) ∙ length-tabulate _ _ in (
       (lm ∙ s .pre .0 .0 ∙ ap (_* s .args .columns) (sym lr), omega (arith, lm, s .pre .0 .1), s .pre .0 .2),
-      (omega (arith, lr, s .pre .1 .0), s .pre .1 .1, s .pre .1 .2),
+      (omega (arith, lr, s .pre .1 .0), s .pre .1 .1, s .pre .1 .2, omega arith),
     ))
     (λ c. search needs) (λ c. search needs) (λ c. search needs) (λ c. search needs)
     (λ c.

@@ -48,7 +48,7 @@ module _ (total w : ℕ) (support ds v out : List ℕ) where
             );
           }
         where
-          six : 6 ≡ 9 → ⊥
+          six : _≡_ {A = ℕ} 6 9 → ⊥
           six e = omega arith
       go (suc n) = record { turned = λ h. refl; exact = λ e. absurd (suc-ne-zero n e) }
 
@@ -89,7 +89,7 @@ module _ (f : Fit) where
           let ends = ends-exact (fitLengths f) (fitSucceeds f) 10 (λ e. ten e) in
           record { turned = λ h. absurd (h refl); exact = λ e. (λ x. lengths-iff .0 (ends .0 x), λ l. ends .1 (lengths-iff .1 l)) }
         where
-          ten : 10 ≡ 9 → ⊥
+          ten : _≡_ {A = ℕ} 10 9 → ⊥
           ten e = omega arith
       go (suc n) = record { turned = λ h. refl; exact = λ e. absurd (suc-ne-zero n e) }
 
