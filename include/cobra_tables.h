@@ -15,7 +15,8 @@
  *          coordinate or coefficient do not count. cobra_box_is_valid and cobra_box_same alone read
  *          coefficients whole.
  * degree   the highest exponent of each variable, and the highest coordinate of the grid. The box
- *          has cells = (degree+1)^k cells, at most 65,536.
+ *          has cells = (degree+1)^k cells, at most 65,536. cobra_recovery_room and cobra_fit_room
+ *          tell beforehand how long the tables have to be.
  *
  * A degree is 0 to 255. C converts a larger number to uint8_t by cutting it to its low eight bits,
  * before the call sees it: the caller has to look at it first. That is so of every uint8_t here.
@@ -33,6 +34,7 @@
  * bytes. Entries are uint64_t, aligned as in C; in keys and exponent lists they are uint8_t. A
  * table without entries has length 0, and its pointer may be NULL. A table that a call writes must
  * not overlap another table of the call, nor *value. Two tables that are only read may be the same.
+ * What is said of *value holds of each number that the calls of room write.
  *
  * A table that crosses as a pointer to const is never altered. Every length but that of a key's
  * exponent list is held to the exact one: a table that is too long is COBRA_WRONG_LENGTH as one
@@ -46,7 +48,7 @@
  *   1   COBRA_EMPTY_SUPPORT        the support is empty
  *   2   COBRA_TOO_MANY_VARIABLES   total is above 20
  *   3   COBRA_WIDTH_OUT_OF_RANGE   width is not 2 to 64
- *   4   COBRA_DEGREE_ZERO          degree is 0 (recovery only)
+ *   4   COBRA_DEGREE_ZERO          degree is 0 (recovery and its room only)
  *   5   COBRA_SUPPORT_INDEX        a variable number of the support is total or more
  *   7   COBRA_REPEATED_INDEX       a variable number stands twice
  *   8   COBRA_TOO_LARGE            the box, or the fit's grid or matrix, has more than 65,536 cells
@@ -99,6 +101,54 @@ extern "C" {
 #define COBRA_SOLVER_STACK_LARGE 98304u
 #define COBRA_WEIGHTED_STACK_SMALL 24576u
 #define COBRA_WEIGHTED_STACK_LARGE 131072u
+
+/* ---- room */
+
+/*
+ * What a grid costs, from the settings alone: how many readings there are to take, how long the
+ * tables are that recovery and the fit have to be lent, and how the work grows. Each call takes a
+ * microsecond or two.
+ *
+ * Their number is the one that recovery, or the fit, gives these settings with tables of exact
+ * lengths, but for 6 and 10, which the values decide: after COBRA_OK no setting is in the way. With
+ * every refusal all counts are 0. Each count needs a place of its own.
+ */
+
+/*
+ * The room of cobra_recover_multivar_poly.
+ *
+ * degree        1 or more
+ * cells         gets (degree+1)^k: the values to survey, and the entries of values and of out
+ * subtractions  gets k * cells * degree / 2: along each variable, pass p from 1 to degree makes one
+ *               at each cell whose coordinate is p or more. The time of a recovery grows no faster.
+ *
+ * Numbers: 1, 2, 3, 4, 5, 7, 8. cobra_recover takes the same settings to COBRA_MAX_ENTRIES cells.
+ */
+uint32_t cobra_recovery_room(const uint64_t *support, size_t support_len,
+                             uint32_t total, uint32_t width, uint8_t degree,
+                             uint64_t *cells, uint64_t *subtractions);
+
+/*
+ * The room of cobra_recover_weighted_poly.
+ *
+ * max_degree   the highest sum of exponents, 0 or more
+ * grid_degree  the highest coordinate of the grid, 0 or more
+ * rows         gets (grid_degree+1)^k, the points of the grid: the entries of weights, of targets
+ *              and of right
+ * columns      gets how many unknowns there are: the exponent lists with no exponent above the
+ *              smaller of the two degrees and a sum of at most max_degree. They are counted, not
+ *              listed: the time of this call grows with k * max_degree alone.
+ * entries      gets rows * columns: the entries of matrix. The time of a fit grows no faster than
+ *              entries * columns.
+ *
+ * out has (d+1)^k entries, d the smaller of the two degrees: never more than rows.
+ *
+ * Numbers: 1, 2, 3, 5, 7, 8. 8 where rows or entries is above 65,536. cobra_fit takes the same
+ * settings where entries is at most COBRA_MAX_ENTRIES.
+ */
+uint32_t cobra_fit_room(const uint64_t *support, size_t support_len,
+                        uint32_t total, uint32_t width, uint8_t max_degree, uint8_t grid_degree,
+                        uint64_t *rows, uint64_t *columns, uint64_t *entries);
 
 /* ---- recovery */
 
@@ -155,7 +205,7 @@ uint32_t cobra_recover_singleton_powers(const uint64_t *values, size_t values_le
  * exponent above d, the smaller of max_degree and grid_degree, and a sum of at most max_degree.
  * columns stands for their number, and rows for the number of grid points, (grid_degree+1)^k.
  * columns is (max_degree+k)! / (max_degree! * k!) where max_degree is at most grid_degree, and rows
- * where max_degree is k * grid_degree or more; else the lists have to be counted.
+ * where max_degree is k * grid_degree or more; cobra_fit_room counts them in every case.
  *
  * weights      a weight for each grid point: rows entries
  * targets      a target for each grid point: rows entries

@@ -49,6 +49,7 @@ void check_at_least(const char *what, unsigned long least, unsigned long got);
 /* the parts */
 void part_refusals(void);
 void part_lengths(void);
+void part_room(void);
 void part_stack(void);
 
 #endif

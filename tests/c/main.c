@@ -35,12 +35,14 @@ int main(int argc, char **argv)
         part_refusals();
     else if (!strcmp(part, "lengths"))
         part_lengths();
+    else if (!strcmp(part, "room"))
+        part_room();
     else if (!strcmp(part, "threads"))
         part_threads();
     else if (!strcmp(part, "stack"))
         part_stack();
     else {
-        fprintf(stderr, "usage: driver refusals|lengths|threads|stack [--plant K]\n");
+        fprintf(stderr, "usage: driver refusals|lengths|room|threads|stack [--plant K]\n");
         return 2;
     }
     printf("driver: %s: %lu comparisons\n", part, check_count());

@@ -73,11 +73,13 @@ static void *boxes(void *arg)
     static const struct { size_t k, n; uint8_t degree; } shapes[] = {
         {20, 1, 0}, {16, 65536, 1}, {4, 65536, 15}, {2, 65536, 255},
     };
-    uint64_t at;
+    uint64_t at, made, entries;
     size_t i;
     for (i = 0; i < sizeof shapes / sizeof *shapes; i++) {
         size_t k = shapes[i].k, n = shapes[i].n;
         uint8_t degree = shapes[i].degree;
+        cobra_recovery_room(list, k, 20, 64, degree, &at, &made);
+        cobra_fit_room(list, k, 20, 64, 255, degree, &at, &made, &entries);
         cobra_recover_multivar_poly(a, n, list, k, 20, 64, degree, b, n);
         cobra_box_value(a, n, list, k, 20, 64, degree, list, k, &at);
         cobra_box_sum(a, n, b, n, list, k, 20, 64, degree, c, n);

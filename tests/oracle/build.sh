@@ -41,6 +41,13 @@ symbols() {
     fi | sort -u
 }
 
+# Two pieces of the Rust that its functions keep to themselves, as they stand there: the list of the fit's columns and the passes
+# of recovery. steps.rs counts with them.
+cut_pieces() {
+    sed -n '/^fn enumerate_basis/,/^}/p' "$out/src/crates/cobra-passes/src/weighted_poly_fit.rs" >"$out/columns.rs"
+    sed -n '/^    for dim in 0\.\.k {$/,/^    }$/p' "$out/src/crates/cobra-ir/src/multivar_poly_recovery.rs" >"$out/passes.rs"
+}
+
 # build NAME MAIN SOURCE.. -- FLAG..: the program $out/NAME from the file MAIN, unless it is newer than
 # MAIN's folder, the Rust program and the other sources
 build() {
@@ -50,6 +57,7 @@ build() {
     shift
     newer "$program" "${from[@]}" || return 0
     rm -f "$program"
+    cut_pieces
     rustc --edition 2021 -O --crate-type rlib --crate-name ahash --out-dir "$out" "$oracle/ahash.rs" >&2 ||
         fail "the stand-in for ahash does not compile"
     rustc --edition 2021 -O --crate-type bin --crate-name "$(basename -- "$program")" \

@@ -144,15 +144,7 @@ const REFUSED: Group = Group {
 /// A fit on a grid of at most `most` points, whose matrix is within the limit.
 fn any_fit(most: u64, fitting: bool, r: &mut Random) -> Case {
     loop {
-        let (k, grid) = shape(r.pick(&[0, 1, 1, 2]), most, r);
-        let (support, total) = support(k, r);
-        let max = match r.below(4) {
-            0 => r.below(3),
-            1 => r.between(0, grid),
-            2 => (grid * k).min(255),
-            _ => (grid + r.below(4)).min(255),
-        };
-        let mut c = Case::of([total, width(r), grid, 0, r.next(), max]).with(support);
+        let mut c = any_settings(most, r);
         if sizes(&c).1.is_none() {
             continue;
         }
@@ -169,6 +161,19 @@ fn any_fit(most: u64, fitting: bool, r: &mut Random) -> Case {
         c.tables.push(targets);
         return c;
     }
+}
+
+/// Settings on such a grid, whatever the matrix; the tables but the support still to be added.
+pub fn any_settings(most: u64, r: &mut Random) -> Case {
+    let (k, grid) = shape(r.pick(&[0, 1, 1, 2]), most, r);
+    let (support, total) = support(k, r);
+    let max = match r.below(4) {
+        0 => r.below(3),
+        1 => r.between(0, grid),
+        2 => (grid * k).min(255),
+        _ => (grid + r.below(4)).min(255),
+    };
+    Case::of([total, width(r), grid, 0, r.next(), max]).with(support)
 }
 
 fn words(c: &Case, r: &mut Random) -> Vec<u64> {
@@ -245,7 +250,7 @@ fn tables(c: &Case) -> [Vec<u64>; 5] {
 }
 
 /// The refusal before anything is eliminated.
-fn number(c: &Case) -> u32 {
+pub fn number(c: &Case) -> u32 {
     let (s, tables) = (settings(c), tables(c));
     let (rows, entries, cells) = sizes(c);
     let exact = [rows, rows, entries, rows, cells];
@@ -260,7 +265,7 @@ fn left(number: u32, degree_used: u64, tables: [Vec<u64>; 5], support: &[u64]) -
     said.words("weights", weights).words("targets", targets).words("support", support.to_vec())
 }
 
-fn judged(c: &Case) -> Answer {
+pub fn judged(c: &Case) -> Answer {
     let (s, mut used) = (settings(c), UNSET);
     let [weights, targets, matrix, right, out] = &mut tables(c).map(|t| Lent::new(&t));
     let mut support = Lent::new(s.support);

@@ -72,6 +72,21 @@ pub mod conversions {
     }
 }
 
+/// What recovery and the fit need.
+pub mod room {
+    calls! {
+        cobra_recovery_room(
+            support: *const u64, support_len: usize, total: u32, width: u32, degree: u8,
+            cells: *mut u64, subtractions: *mut u64,
+        );
+        cobra_fit_room(
+            support: *const u64, support_len: usize, total: u32, width: u32,
+            max_degree: u8, grid_degree: u8,
+            rows: *mut u64, columns: *mut u64, entries: *mut u64,
+        );
+    }
+}
+
 pub mod recovery {
     calls! {
         cobra_recover_multivar_poly(

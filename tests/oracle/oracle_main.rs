@@ -26,9 +26,11 @@ mod passes;
 mod random;
 mod recovery;
 mod reference;
+mod room;
 mod rows;
 mod settings;
 mod singletons;
+mod steps;
 mod systems;
 
 use group::{first_difference, Group};
@@ -51,6 +53,7 @@ fn groups() -> Vec<(&'static Group, bool)> {
     groups.extend(singletons::GROUPS);
     groups.extend(systems::GROUPS);
     groups.extend(fit::GROUPS);
+    groups.extend(room::GROUPS);
     groups.extend(demand3::GROUPS);
     groups.extend(beyond::GROUPS);
     groups
@@ -197,7 +200,8 @@ fn selftest(groups: &[(&Group, bool)], seed: u64, cases: u64) -> bool {
 /// Statements that are false must be refuted by the cases of the true ones beside them.
 fn refutes_what_is_false(seed: u64, cases: u64) -> bool {
     let mut all = true;
-    for (group, _) in beyond::REFUTED.into_iter().filter(|(_, here)| *here) {
+    let statements = beyond::REFUTED.into_iter().chain(room::REFUTED);
+    for (group, _) in statements.filter(|(_, here)| *here) {
         match judge(group, seed, cases, Plant::Nothing).failure {
             Some((_, smallest)) => show(group, "false, and refuted", &smallest),
             None => {

@@ -204,7 +204,7 @@ fn number(c: &Case) -> u32 {
 }
 
 /// The call on u64, with the call on bytes beside it.
-fn judged(c: &Case) -> Answer {
+pub fn judged(c: &Case) -> Answer {
     let (s, (values, out)) = (settings(c), in_and_out(c));
     let (answer, [lent, values, support], outside) = recovered(&values, &s, &out);
     let left = left(answer, lent, values, support);

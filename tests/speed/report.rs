@@ -47,11 +47,11 @@ fn per_step(seconds: f64, row: &Row) -> String {
     short(seconds * 1e9 / row.input.steps as f64)
 }
 
-/// What the ratios are gathered by: the call, and for a fit its weights, or that it has no answer.
+/// What the ratios are gathered by: the call, and for a fit its weights, or that it has no answer or is refused.
 fn group(row: &Row) -> String {
     let Input { call, shape, .. } = &row.input;
     let last = shape.rsplit(", ").next().unwrap_or_default();
-    if last.ends_with("weights") || last == "no answer" {
+    if last.ends_with("weights") || last == "no answer" || last == "refused" {
         return format!("`{call}`, {last}");
     }
     format!("`{call}`")

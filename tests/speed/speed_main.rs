@@ -26,12 +26,15 @@ mod random;
 #[path = "../oracle/reference.rs"]
 mod reference;
 mod report;
+mod room;
 mod session;
 #[path = "../oracle/settings.rs"]
 mod settings;
 mod shapes;
 mod singletons;
 mod solvers;
+#[path = "../oracle/steps.rs"]
+mod steps;
 mod tables;
 mod targets;
 mod transforms;
@@ -63,6 +66,7 @@ fn main() {
     singletons::time(&mut session);
     fits::time(&mut session);
     solvers::time(&mut session);
+    room::time(&mut session);
     forms::time(&mut session);
     leaves::time(&mut session);
     keys::time(&mut session);

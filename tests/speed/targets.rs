@@ -74,6 +74,8 @@ const TARGETS: &[Target] = &[
     target("solve_2adic", "4 x 4, 16 x 4", |r| r.input.size == 16 || r.input.size == 64, OfCAheadOfRust(1.6)),
     target("solve_2adic", "64 x 64 and on", |r| r.input.size >= 4096, OfC(1.0)),
     target("recover_weighted_poly", "8 x 4, 16 x 6", |r| r.input.size == 32 || r.input.size == 96, OfCAheadOfRust(1.6)),
+    target("recovery_room", "every setting", |_| true, Nanoseconds(10_000.0)),
+    target("fit_room", "every setting", |_| true, Nanoseconds(10_000.0)),
     target("cobra_recover", "4 cells", |r| cells(r, 4), Nanoseconds(60.0)),
     target("cobra_fit", "8 x 4", |r| r.input.size == 32, AheadOfRust),
 ];
