@@ -106,8 +106,8 @@ extern "C" {
 
 /*
  * What a grid costs, from the settings alone: how many readings there are to take, how long the
- * tables are that recovery and the fit have to be lent, and how the work grows. Each call takes a
- * microsecond or two.
+ * tables are that recovery and the fit have to be lent, and how the work grows. A call takes a few
+ * microseconds at most, the reading of a very long support apart.
  *
  * Their number is the one that recovery, or the fit, gives these settings with tables of exact
  * lengths, but for 6 and 10, which the values decide: after COBRA_OK no setting is in the way. With
