@@ -9,7 +9,7 @@ use native.Mathlib.Omega.{arith}
 use lib.ListN.{length, set, length-set}
 use lib.Seq.{getD-set-same, getD-set-other}
 use Rattle.meaning.specs.Tables.{tabulate, at}
-use Rattle.meaning.specs.Differences.{minus}
+use Rattle.meaning.specs.Differences.{minus, diff, diffs, newton}
 use Rattle.meaning.specs.Stirling.{fallingLine, powerLine}
 use Rattle.theory.specs.Tables.{eq-tabulate}
 use Rattle.lines.specs.FlatTables.{Line, lined}
@@ -50,44 +50,117 @@ module _ (line : Line) (s : ℕ) (t₀ : List ℕ) where
       pub last-number : at t (s + s + s + i) ≡ number 3
       last-number = let e : s + s + s + i ≡ 3 * s + i = omega arith in ap (at t) e ∙ r .kept 3 i (omega arith) (omega arith) h
 
-      -- its two inner numbers are set
-      pub rows-step : (a b : ℕ) → Four line number a b → Rows line s t₀ (set (set t (s + i) a) (s + s + i) b) (i + 1)
-      rows-step a b four =
+      pub first-number : at t i ≡ number 0
+      first-number = let e : i ≡ 0 * s + i = omega arith in ap (at t) e ∙ r .kept 0 i (omega arith) (omega arith) h
+
+      -- a table in which the line is done and the others are as they were
+      next-rows : (after : List ℕ) → length after ≡ length t → ((x q : ℕ) → x ≤ 3 → q < s → q ≢ i → at after (x * s + q) ≡ at t (x * s + q))
+          → ((x : ℕ) → x ≤ 3 → at after (x * s + i) ≡ line 3 number x) → Rows line s t₀ after (i + 1)
+      next-rows after long stays here =
           record {
-            same = simp length-set (r .same);
+            same = long ∙ r .same;
             done = λ x q l p z. go x q l z (eq-or-lt-of-le (le-of-suc-le-suc (rw (add-one i) at p)));
             kept = λ x q l p z. stays x q l z (omega arith) ∙ r .kept x q l (omega arith) z;
           }
         where
-          after : List ℕ
-          after = set (set t (s + i) a) (s + s + i) b
-
-          other : (p : ℕ) → p ≢ s + i → p ≢ s + s + i → at after p ≡ at t p
-          other p u v = getD-set-other (set t (s + i) a) (s + s + i) p b 0 v ∙ getD-set-other t (s + i) p a 0 u
-
-          -- a line with another offset
-          stays : (x q : ℕ) → x ≤ 3 → q < s → q ≢ i → at after (x * s + q) ≡ at t (x * s + q)
-          stays zero q l z u = other (0 * s + q) (omega arith) (omega arith)
-          stays (suc zero) q l z u = other (1 * s + q) (omega arith) (omega arith)
-          stays (suc (suc zero)) q l z u = other (2 * s + q) (omega arith) (omega arith)
-          stays (suc (suc (suc zero))) q l z u = other (3 * s + q) (omega arith) (omega arith)
-          stays (suc (suc (suc (suc x)))) q l z u = absurd (omega arith)
-
-          -- this line
-          here : (x : ℕ) → x ≤ 3 → at after (x * s + i) ≡ line 3 number x
-          here zero l = other (0 * s + i) (omega arith) (omega arith) ∙ r .kept 0 i l (omega arith) h ∙ sym (four .first)
-          here (suc zero) l =
-              let e : 1 * s + i ≡ s + i = omega arith in
-              ap (at after) e
-              ∙ getD-set-other (set t (s + i) a) (s + s + i) (s + i) b 0 (omega arith)
-              ∙ getD-set-same t (s + i) a 0 (omega (arith, r .same))
-              ∙ sym (four .second)
-          here (suc (suc zero)) l =
-              let e : 2 * s + i ≡ s + s + i = omega arith in
-              ap (at after) e ∙ getD-set-same (set t (s + i) a) (s + s + i) b 0 (simp length-set (omega (arith, r .same))) ∙ sym (four .third)
-          here (suc (suc (suc zero))) l = other (3 * s + i) (omega arith) (omega arith) ∙ r .kept 3 i l (omega arith) h ∙ sym (four .last)
-          here (suc (suc (suc (suc x)))) l = absurd (omega arith)
-
           go : (x q : ℕ) → x ≤ 3 → q < s → (q ≡ i) ⊎ (q < i) → at after (x * s + q) ≡ lined line s 3 (at t₀) (x * s + q)
           go x q l z (inl e) = rw e (here x l ∙ sym (lined-at s pos line 3 (at t₀) x h))
           go x q l z (inr p) = stays x q l z (omega arith) ∙ r .done x q l p z
+
+      module _ (a b : ℕ) where
+        -- its two inner numbers are set
+        inner : List ℕ
+        inner = set (set t (s + i) a) (s + s + i) b
+
+        inner-other : (p : ℕ) → p ≢ s + i → p ≢ s + s + i → at inner p ≡ at t p
+        unfolding inner
+        inner-other p u v = getD-set-other (set t (s + i) a) (s + s + i) p b 0 v ∙ getD-set-other t (s + i) p a 0 u
+
+        inner-second : at inner (1 * s + i) ≡ a
+        unfolding inner
+        inner-second =
+            let e : 1 * s + i ≡ s + i = omega arith in
+            ap (at (set (set t (s + i) a) (s + s + i) b)) e
+            ∙ getD-set-other (set t (s + i) a) (s + s + i) (s + i) b 0 (omega arith)
+            ∙ getD-set-same t (s + i) a 0 (omega (arith, r .same))
+
+        inner-third : at inner (2 * s + i) ≡ b
+        unfolding inner
+        inner-third =
+            let e : 2 * s + i ≡ s + s + i = omega arith in
+            ap (at (set (set t (s + i) a) (s + s + i) b)) e ∙ getD-set-same (set t (s + i) a) (s + s + i) b 0 (simp length-set (omega (arith, r .same)))
+
+        inner-stays : (x q : ℕ) → x ≤ 3 → q < s → q ≢ i → at inner (x * s + q) ≡ at t (x * s + q)
+        inner-stays zero q l z u = inner-other (0 * s + q) (omega arith) (omega arith)
+        inner-stays (suc zero) q l z u = inner-other (1 * s + q) (omega arith) (omega arith)
+        inner-stays (suc (suc zero)) q l z u = inner-other (2 * s + q) (omega arith) (omega arith)
+        inner-stays (suc (suc (suc zero))) q l z u = inner-other (3 * s + q) (omega arith) (omega arith)
+        inner-stays (suc (suc (suc (suc x)))) q l z u = absurd (omega arith)
+
+        inner-first : line 3 number 0 ≡ number 0 → at inner (0 * s + i) ≡ line 3 number 0
+        inner-first e = inner-other (0 * s + i) (omega arith) (omega arith) ∙ r .kept 0 i (omega arith) (omega arith) h ∙ sym e
+
+        pub rows-step : Four line number a b → Rows line s t₀ (set (set t (s + i) a) (s + s + i) b) (i + 1)
+        unfolding inner
+        rows-step four = next-rows inner (simp length-set) inner-stays here
+          where
+            here : (x : ℕ) → x ≤ 3 → at inner (x * s + i) ≡ line 3 number x
+            here zero l = inner-first (four .first)
+            here (suc zero) l = inner-second ∙ sym (four .second)
+            here (suc (suc zero)) l = inner-third ∙ sym (four .third)
+            here (suc (suc (suc zero))) l = inner-other (3 * s + i) (omega arith) (omega arith) ∙ r .kept 3 i l (omega arith) h ∙ sym (four .last)
+            here (suc (suc (suc (suc x)))) l = absurd (omega arith)
+
+        -- and the last one too
+        pub rows-step-last : (c : ℕ) → line 3 number 0 ≡ number 0 → a ≡ line 3 number 1 → b ≡ line 3 number 2 → c ≡ line 3 number 3
+            → Rows line s t₀ (set (set (set t (s + i) a) (s + s + i) b) (s + s + s + i) c) (i + 1)
+        unfolding inner
+        rows-step-last c e₀ e₁ e₂ e₃ = next-rows after (simp length-set) stays here
+          where
+            after : List ℕ
+            after = set inner (s + s + s + i) c
+
+            other : (p : ℕ) → p ≢ s + s + s + i → at after p ≡ at inner p
+            other p u = getD-set-other inner (s + s + s + i) p c 0 u
+
+            stays : (x q : ℕ) → x ≤ 3 → q < s → q ≢ i → at after (x * s + q) ≡ at t (x * s + q)
+            stays zero q l z u = other (0 * s + q) (omega arith) ∙ inner-stays 0 q l z u
+            stays (suc zero) q l z u = other (1 * s + q) (omega arith) ∙ inner-stays 1 q l z u
+            stays (suc (suc zero)) q l z u = other (2 * s + q) (omega arith) ∙ inner-stays 2 q l z u
+            stays (suc (suc (suc zero))) q l z u = other (3 * s + q) (omega arith) ∙ inner-stays 3 q l z u
+            stays (suc (suc (suc (suc x)))) q l z u = absurd (omega arith)
+
+            here : (x : ℕ) → x ≤ 3 → at after (x * s + i) ≡ line 3 number x
+            here zero l = other (0 * s + i) (omega arith) ∙ inner-first e₀
+            here (suc zero) l = other (1 * s + i) (omega arith) ∙ inner-second ∙ e₁
+            here (suc (suc zero)) l = other (2 * s + i) (omega arith) ∙ inner-third ∙ e₂
+            here (suc (suc (suc zero))) l =
+                let e : 3 * s + i ≡ s + s + s + i = omega arith in
+                ap (at after) e ∙ getD-set-same inner (s + s + s + i) c 0 (simp length-set (omega (arith, r .same))) ∙ e₃
+            here (suc (suc (suc (suc x)))) l = absurd (omega arith)
+
+-- one line of differences
+pub newton-rows-step : (s : ℕ) (t₀ : List ℕ) → 0 < s → length t₀ ≡ s * 4 → (t : List ℕ) (i : ℕ) → Rows (newton (2 ^ 64)) s t₀ t i → i < s
+    → (first second third again difference v : ℕ)
+    → first ≡ minus (2 ^ 64) (at t (s + i)) (at t i) → second ≡ minus (2 ^ 64) (at t (s + s + i)) (at t (s + i))
+    → third ≡ minus (2 ^ 64) (at t (s + s + s + i)) (at t (s + s + i)) → again ≡ minus (2 ^ 64) second first
+    → difference ≡ minus (2 ^ 64) third second → v ≡ minus (2 ^ 64) difference again
+    → Rows (newton (2 ^ 64)) s t₀ (set (set (set t (s + i) first) (s + s + i) again) (s + s + s + i) v) (i + 1)
+unfolding newton diffs diff
+newton-rows-step s t₀ pos whole t i r h first second third again difference v e₁ e₂ e₃ e₄ e₅ e₆ =
+    rows-step-last (newton (2 ^ 64)) s t₀ pos whole t i r h first again v refl one two (e₆ ∙ ap₂ (minus (2 ^ 64)) (e₅ ∙ ap₂ (minus (2 ^ 64)) three next) two)
+  where
+    c : ℕ → ℕ
+    c x = at t₀ (x * s + i)
+
+    one : first ≡ minus (2 ^ 64) (c 1) (c 0)
+    one = e₁ ∙ ap₂ (minus (2 ^ 64)) (second-number (newton (2 ^ 64)) s t₀ pos whole t i r h) (first-number (newton (2 ^ 64)) s t₀ pos whole t i r h)
+
+    next : second ≡ minus (2 ^ 64) (c 2) (c 1)
+    next = e₂ ∙ ap₂ (minus (2 ^ 64)) (third-number (newton (2 ^ 64)) s t₀ pos whole t i r h) (second-number (newton (2 ^ 64)) s t₀ pos whole t i r h)
+
+    three : third ≡ minus (2 ^ 64) (c 3) (c 2)
+    three = e₃ ∙ ap₂ (minus (2 ^ 64)) (last-number (newton (2 ^ 64)) s t₀ pos whole t i r h) (third-number (newton (2 ^ 64)) s t₀ pos whole t i r h)
+
+    two : again ≡ minus (2 ^ 64) (minus (2 ^ 64) (c 2) (c 1)) (minus (2 ^ 64) (c 1) (c 0))
+    two = e₄ ∙ ap₂ (minus (2 ^ 64)) next one

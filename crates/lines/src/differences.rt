@@ -101,6 +101,33 @@ fn difference_line(part: &mut [u64])
     }
 }
 
+// The lines of a block of degree 3, each without a loop.
+fn difference_rows(part: &mut [u64], stride: usize)
+    requires { ⌜ (0 < stride) × (length (now part) ≡ stride * 4) ⌝ }
+    ensures { λ r. ⌜ now (part .exit) ≡ tabulate (length (now (part .entry))) (lined (newton (2 ^ 64)) stride 3 (at (now (part .entry)))) ⌝ }
+{
+    let twice = stride + stride;
+    // Never so, as the next one: said for the compiler, which then knows that the distances are not negative.
+    if 0x1000_0000_0000_0000 <= twice {
+        return;
+    }
+    let thrice = twice + stride;
+    if 0x1000_0000_0000_0000 <= thrice {
+        return;
+    }
+    let mut i = 0;
+    while i < stride {
+        let first = arith::wrapping_sub(part[stride + i], part[i]);
+        let second = arith::wrapping_sub(part[twice + i], part[stride + i]);
+        let third = arith::wrapping_sub(part[thrice + i], part[twice + i]);
+        let again = arith::wrapping_sub(second, first);
+        part[stride + i] = first;
+        part[twice + i] = again;
+        part[thrice + i] = arith::wrapping_sub(arith::wrapping_sub(third, second), again);
+        i += 1;
+    }
+}
+
 // Every line of one block of stride (d + 1) numbers, pass by pass.
 fn difference_short(part: &mut [u64], stride: usize, d: u8)
     requires { ⌜ (0 < stride) × (length (now part) ≡ stride * suc d) ⌝ }
@@ -153,6 +180,10 @@ pub(crate) fn difference_block(part: &mut [u64], stride: usize, d: u8)
     }
     if stride == 1 {
         difference_line(part);
+        return;
+    }
+    if d == 3 {
+        difference_rows(part, stride);
         return;
     }
     if d < 7 {

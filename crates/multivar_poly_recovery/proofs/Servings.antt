@@ -1,7 +1,7 @@
 -- The tables that serve a box, for a single row, a line, and the sub-boxes of the last variable.
 use mathlib.Core.Path.{_≡_, refl, sym, _∙_, ap}
 use mathlib.Core.List.{List, [], _∷_}
-use Prim.Native.Nat.{ℕ, suc, _-_, _≤_, _<_}
+use Prim.Native.Nat.{ℕ, suc, _*_, _-_, _≤_, _<_}
 use native.Mathlib.Nat.{suc-ne-zero, suc-inj}
 use native.Mathlib.Omega.{arith}
 use lib.ListN.{length, take}
@@ -64,6 +64,15 @@ unfolding cells
 single-cells [] e = absurd (suc-ne-zero 0 (sym e))
 single-cells (d ∷ []) e = omega arith
 single-cells (d ∷ (y ∷ ys)) e = absurd (suc-ne-zero (length ys) (suc-inj e))
+
+pub double : (ds : List ℕ) → length ds ≡ 2 → ds ≡ at ds 0 ∷ (at ds 1 ∷ [])
+double [] e = absurd (suc-ne-zero 1 (sym e))
+double (d ∷ ds) e = ap (d ∷_) (single ds (suc-inj e))
+
+pub double-cells : (ds : List ℕ) → length ds ≡ 2 → cells ds ≡ suc (at ds 1) * suc (at ds 0)
+unfolding cells
+double-cells [] e = absurd (suc-ne-zero 1 (sym e))
+double-cells (d ∷ ds) e = ap (_* suc d) (single-cells ds (suc-inj e))
 
 -- no rows
 pub serving-alone : (ds inverses : List ℕ) → Inverses inverses → Reaching ds (length inverses) → Serving 0 ds inverses (0xffff_ffff_ffff_ffff ∷ []) (1 ∷ [])

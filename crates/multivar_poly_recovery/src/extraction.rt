@@ -1,7 +1,7 @@
 // From Newton's differences to the coefficients of the falling factorials, in place. The variables are taken from the last on: the cells of one exponent of
 // the last variable are a part of the table, for which the bits that are left and the inverse so far are handed on. In a large box the first variables,
 // as many as have 256 cells or fewer together, make rows: for each cell of a row the mask and the inverse are laid out once. In a small one the walk ends
-// at a line, along which the mask loses its bits.
+// at lines, along which the mask loses its bits.
 ghost use mathlib.Core.Path.{_≡_};
 ghost use mathlib.Core.Bool.{true, cond};
 ghost use mathlib.Core.List.{List, [], _∷_};
@@ -113,9 +113,42 @@ fn extract_line(part: &mut [u64], left: u32, v: u64, bitwidth: u32, inverses: &[
     true
 }
 
+// Two variables, line by line, where the exponents of the variables behind them leave `left` bits, and v is the inverse of the odd part.
+fn extract_plane(
+    part: &mut [u64],
+    low: u8,
+    high: u8,
+    left: u32,
+    v: u64,
+    bitwidth: u32,
+    inverses: &[u64],
+) -> bool
+    requires { ⌜ (length (now part) ≡ suc high * suc low) × (low < length (now inverses)) × (high < length (now inverses)) × (left ≤ bitwidth)
+        × (bitwidth ≤ 64) × Inverses (now inverses) ⌝ }
+    ensures { λ r. ⌜ ((hs : List ℕ) → left ≡ bitwidth - weight hs → v ≡ inverse (oddFactor hs) 64
+        → Extracted bitwidth (low ∷ (high ∷ [])) hs (now (part .entry)) (now (part .exit)) r) ⌝ }
+{
+    let size = low as usize + 1;
+    let count = high as usize + 1;
+    let mut bits = left;
+    let mut from = 0;
+    let mut e = 0;
+    while e < count {
+        let end = from + size;
+        let inverse = arith::wrapping_mul(v, inverses[e]);
+        if !extract_line(&mut part[from..end], bits, inverse, bitwidth, inverses) {
+            return false;
+        }
+        from = end;
+        e += 1;
+        bits = box_rows::layout::bits_left(bits, e);
+    }
+    true
+}
+
 // The box of the variables of `degrees`, of which the first ones make rows, where the exponents of the variables behind them leave `left` bits, and v is the
 // inverse of the odd part: each sub-box of the last variable in turn, up to the first difference that does not pass. Where no variable makes rows the
-// walk ends at a line.
+// walk ends at two variables.
 fn extract_box(
     part: &mut [u64],
     degrees: &[u8],
@@ -137,6 +170,9 @@ fn extract_box(
     }
     if degrees.len() == 1 {
         return extract_line(part, left, v, bitwidth, inverses);
+    }
+    if degrees.len() + first == 2 {
+        return extract_plane(part, degrees[0], degrees[1], left, v, bitwidth, inverses);
     }
     let last = degrees.len() - 1;
     let count = degrees[last] as usize + 1;

@@ -1,4 +1,4 @@
--- The measure is the number of degrees. A box that is one row is `extract_row`'s, one variable `extract_line`'s. Else the loop: the sub-boxes below exponent e
+-- The measure is the number of degrees. A box that is one row is `extract_row`'s, one variable `extract_line`'s, two `extract_plane`'s. Else the loop: the sub-boxes below exponent e
 -- pass and are done, and `bits` are those that e leaves; the first sub-box that fails makes the box fail.
 use borrow.Author.Needs.{needs}
 use borrow.Author.Tests.{not-true, not-false}
@@ -7,7 +7,7 @@ use Prim.Native.Nat.{ℕ, _+_, _-_, _/_, _≤_, _<_}
 use native.Mathlib.Omega.{arith}
 use lib.ListN.{length, take}
 use Rattle.meaning.specs.Tables.{at}
-use Rattle.multivar_poly_recovery.proofs.Servings.{laid-mask, serving-row, serving-masks, serving-units, serving-others, single, single-cells}
+use Rattle.multivar_poly_recovery.proofs.Servings.{laid-mask, serving-row, serving-masks, serving-units, serving-others, single, single-cells, double, double-cells}
 use Rattle.multivar_poly_recovery.proofs.SubBoxes.{SubBoxes, promise-split, Layout, layout, subBoxes-start, subBox-fits, subBox-length, subBox-fails, subBoxes-step, subBoxes-done}
 use borrow.Fn.Kinds.{In}
 use borrow.Fn.PlainCycle.{Measures, is, falls, and}
@@ -17,6 +17,7 @@ use Rattle.multivar_poly_recovery.proofs.extraction.+extract_box.Lts-ex
 use Rattle.arith.proofs.wrapping_mul.Reads as wrapping-mul-reads
 use Rattle.box_rows.proofs.layout.bits_left.Reads as bits-left-reads
 use Rattle.multivar_poly_recovery.proofs.extraction.extract_line.Reads as extract-line-reads
+use Rattle.multivar_poly_recovery.proofs.extraction.extract_plane.Reads as extract-plane-reads
 use Rattle.multivar_poly_recovery.proofs.extraction.extract_row.Reads as extract-row-reads
 use Rattle.multivar_poly_recovery.proofs.extraction.+extract_box.{statement}
 use Rattle.multivar_poly_recovery.proofs.extraction.+extract_box.Tie.{close}
@@ -37,6 +38,8 @@ calls t = (
   extract-row-reads.Learnt,
   extract-line-reads.Asked,
   extract-line-reads.Learnt,
+  extract-plane-reads.Asked,
+  extract-plane-reads.Learnt,
   wrapping-mul-reads.Asked,
   wrapping-mul-reads.Learnt,
   below t,
@@ -62,15 +65,24 @@ one-row t c = c .before .before .before .before .before .before
 abbrev one-line : (t : ℕ) → lts.Then2 (calls t) (here t) reads.Post Inv-loop μ-loop → Lent t
 one-line t c = c .before .before .before .before .before .before .before
 
+abbrev Plane : ℕ → Type 0
+Plane t = lts.Then3 (calls t) (here t) reads.Post Inv-loop μ-loop
+
+abbrev one-plane : (t : ℕ) → Plane t → Lent t
+one-plane t c = c .before .before .before .before .before .before .before .before
+
+two : (t : ℕ) (c : Plane t) → length (one-plane t c .args .degrees .now) ≡ 2
+two t c = omega (arith, one-plane t c .pre .1 .1 .rowed .within, c .before .before .if1 .left, c .before .if2 .left, c .if3 .taken)
+
 -- a variable is left that makes no rows
 abbrev Larger : ℕ → Type 0
-Larger t = lts.Else2 (calls t) (here t) reads.Post Inv-loop μ-loop
+Larger t = lts.Else3 (calls t) (here t) reads.Post Inv-loop μ-loop
 
 abbrev lent : (t : ℕ) → Larger t → Lent t
-lent t c = c .before .before .before .before .before .before .before
+lent t c = c .before .before .before .before .before .before .before .before
 
 some : (t : ℕ) (c : Larger t) → 0 < length (lent t c .args .degrees .now)
-some t c = omega (arith, lent t c .pre .1 .1 .rowed .within, c .before .if1 .left)
+some t c = omega (arith, lent t c .pre .1 .1 .rowed .within, c .before .before .if1 .left)
 
 -- a turn of the loop, and what was lent
 abbrev Turn : ℕ → Type 0
@@ -99,7 +111,7 @@ reached t c =
 byte : (t : ℕ) (c : Turn t) → c .before .loop .e < 256
 byte t c =
     let l = c .before in
-    omega (arith, c .loop-test .taken, l .before .shared-slice-known5 .given (length (lent t (of-turn t c) .args .degrees .now) - 1) .fits)
+    omega (arith, c .loop-test .taken, l .before .shared-slice-known7 .given (length (lent t (of-turn t c) .args .degrees .now) - 1) .fits)
 
 -- the turn whose sub-box is lent, and came back
 abbrev Lends : ℕ → Type 0
@@ -111,7 +123,7 @@ product t c = c .before .before
 abbrev lends : (t : ℕ) → Lends t → Turn t
 lends t c = product t c .before .before
 
-abbrev came : (t : ℕ) → lts.After-slice-known4 (calls t) (here t) reads.Post Inv-loop μ-loop → lts.After-extract-box (calls t) (here t) reads.Post Inv-loop μ-loop
+abbrev came : (t : ℕ) → lts.After-slice-known5 (calls t) (here t) reads.Post Inv-loop μ-loop → lts.After-extract-box (calls t) (here t) reads.Post Inv-loop μ-loop
 came t c = c .before .before
 
 pub +extract-box-spec : {M : Type 1} → statement M
@@ -148,10 +160,24 @@ pub +extract-box-spec : {M : Type 1} → statement M
     let p = s .pre .1 in
     rw (single (s .args .degrees .now) (h .if2 .taken))
     (k .extract-line .ensures _ hs (p .1 .table) (p .0 .0 ∙ single-cells (s .args .degrees .now) (h .if2 .taken)) x y))
+    (λ c. search needs)
+    (λ c. omega (arith, two t (c .before .before)))
+    (λ c. omega (arith, two t (c .before .before .before)))
+    (λ c κs.
+    let h = c .before .before .before in
+    let s = one-plane t h in
+    let p = s .pre .1 in
+    let e = two t h in
+    (p .0 .0 ∙ double-cells _ e, p .1 .reach 0 (omega arith), p .1 .reach 1 (omega arith), p .0 .1, p .0 .2, p .1 .table))
+    (λ c. search needs)
+    (λ c.
+    let k = c .before .before in
+    let h = k .before .before .before .before in
+    promise-split _ _ _ _ _ (one-plane t h .args .part .now) _ _ (double _ (two t h)) (k .extract-plane .ensures))
     (λ c. omega (arith, some t c))
     (λ c. omega (arith, some t (c .before)))
-    (λ c. let n = length (lent t (c .before) .args .degrees .now) - 1 in omega (arith, c .shared-slice-known5 .given n))
-    (λ c. let n = length (lent t (c .before) .args .degrees .now) - 1 in omega (arith, c .shared-slice-known5 .given n))
+    (λ c. let n = length (lent t (c .before) .args .degrees .now) - 1 in omega (arith, c .shared-slice-known7 .given n))
+    (λ c. let n = length (lent t (c .before) .args .degrees .now) - 1 in omega (arith, c .shared-slice-known7 .given n))
     (λ c. search needs)
     (λ c. (subBoxes-start _ _ _ _ _ _, layout _ _ (some t (c .before)) (lent t (c .before) .pre .1 .0 .0), refl))
     (λ c. omega (arith, fits t c))
@@ -176,7 +202,7 @@ pub +extract-box-spec : {M : Type 1} → statement M
           omega (arith, i .0 .over, s .pre .1 .0 .1),
           s .pre .1 .0 .2,
         ),
-        serving-others _ _ _ _ _ (s .pre .1 .1) (n .before .if1 .left),
+        serving-others _ _ _ _ _ (s .pre .1 .1) (n .before .before .if1 .left),
       ),
     ))
     (λ c. search needs)
@@ -189,7 +215,7 @@ pub +extract-box-spec : {M : Type 1} → statement M
     promise-split _ _ _ _ _ (s .args .part .now) _ _ (i .1 .split)
     (subBox-fails _ _ _ _ _ (s .args .part .now) (l .part) (l .bits) (l .from) (l .e) (i .0) (omega (arith, u .loop-test .taken)) (i .1 .whole) _ (i .1 .sized)
     (s .args .inverses .now) (s .pre .1 .1 .table) (reached t u) _ (product t (k .before) .wrapping-mul .ensures) _ _
-    (k .extract-box .ensures) _ (not-true _ (c .if3 .taken))))
+    (k .extract-box .ensures) _ (not-true _ (c .if4 .taken))))
     (λ c. omega (arith, byte t (lends t (came t (c .before) .before))))
     (λ c κs. search needs)
     (λ c. search needs)
@@ -202,7 +228,7 @@ pub +extract-box-spec : {M : Type 1} → statement M
       subBoxes-step _ _ _ _ _ _ (l .part) (l .bits) (l .from) (l .e) (i .0) (omega (arith, u .loop-test .taken)) (i .1 .whole) _ (i .1 .sized)
           (s .args .inverses .now) (s .pre .1 .1 .table) (reached t u) _ (product t (k .before) .wrapping-mul .ensures) _ _
           (k .extract-box .ensures) _ (k .extract-box .kept .0)
-          (not-false _ (c .before .if3 .left)) (c .bits-left .ensures),
+          (not-false _ (c .before .if4 .left)) (c .bits-left .ensures),
       i .1,
       refl,
     ))
