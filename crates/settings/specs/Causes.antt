@@ -127,15 +127,14 @@ module _ {strict : Bool} {total w : ℕ} {support ds given out : List ℕ} (r : 
   pub ready-high : w ≤ 64
   ready-high = width-high w (ready-passes .width)
 
--- some of n copies
-pub take-copies : (n k d : ℕ) → k ≤ n → take k (replicate n d) ≡ replicate k d
-take-copies n zero d h = refl
-take-copies zero (suc k) d h = absurd (not-suc-le-zero h)
-take-copies (suc n) (suc k) d h = ap (d ∷_) (take-copies n k d (le-of-suc-le-suc h))
-
 -- the degrees of a box with one degree, taken from twenty copies of it
 pub take-cube : (support : List ℕ) (d : ℕ) → length support ≤ 20 → take (length support) (replicate 20 d) ≡ cube support d
-take-cube support d = take-copies 20 (length support) d
+take-cube support d = go 20 (length support)
+  where
+    go : (n k : ℕ) → k ≤ n → take k (replicate n d) ≡ replicate k d
+    go n zero h = refl
+    go zero (suc k) h = absurd (not-suc-le-zero h)
+    go (suc n) (suc k) h = ap (d ∷_) (go n k (le-of-suc-le-suc h))
 
 -- ---- more than twenty indices
 

@@ -8,14 +8,14 @@ use native.Mathlib.Decide.{decLe}
 use native.Mathlib.Omega.{arith}
 use borrow.Author.Tests.{lt-ltb, le-ltb}
 use lib.Dec.{ltb}
-use lib.ListN.{length, drop, replicate, length-replicate, getD-replicate, drop-of-length-le, List·getD-eq-default}
+use lib.ListN.{length, drop, drop-of-length-le, List·getD-eq-default}
 use lib.Seq.{drop-cons}
 use Rattle.meaning.specs.Tables.{tabulate, at}
 use Rattle.meaning.specs.Sums.{sum}
 use Rattle.meaning.specs.Boxes.{cells}
 use Rattle.meaning.specs.Fit.{columns}
 use Rattle.theory.specs.Sums.{sum-last, sum-eq, sum-le}
-use Rattle.theory.specs.Tables.{at-tabulate, length-tabulate, tabulate-cong, eq-tabulate}
+use Rattle.theory.specs.Tables.{at-tabulate, length-tabulate, tabulate-cong}
 use Rattle.weighted_poly_fit.proofs.ColumnCount.{columns-le-cells, count-none, count-cons}
 
 -- ---- the running sum
@@ -96,13 +96,22 @@ list-counts-le ds n i s = go (decLe n s)
         le-trans (le-of-eq (at-tabulate n (λ s. length (columns (drop i ds) s)) s (omega arith)))
         (le-trans (columns-le-cells (drop i ds) s) (cells-drop-le ds i))
 
--- without variables each is 1
-pub list-counts-start : (ds : List ℕ) (n : ℕ) → replicate n 1 ≡ list-counts ds n (length ds)
-list-counts-start ds n =
-    eq-tabulate (replicate n 1) n _ (length-replicate n 1)
+sum-ones : (n : ℕ) → sum n (λ e. 1) ≡ n
+unfolding sum
+sum-ones zero = refl
+sum-ones (suc n) = omega (arith, sum-ones n)
+
+-- of the last variable
+pub list-counts-one : (ds : List ℕ) (n i : ℕ) → length ds ≡ suc i → tabulate n (λ s. suc (min (at ds i) s)) ≡ list-counts ds n i
+list-counts-one ds n i h =
+    tabulate-cong n _ _
     (λ s l.
-    getD-replicate n s 1 0 l
-    ∙ sym (ap (λ (l : List ℕ). length (columns l s)) (drop-of-length-le ds (le-refl (length ds))) ∙ count-none s))
+    sym (ap (λ (l : List ℕ). length (columns l s)) last ∙ count-cons (at ds i) [] s
+    ∙ sum-eq (suc (min (at ds i) s)) (λ e k. count-none (s - e))
+    ∙ sum-ones (suc (min (at ds i) s))))
+  where
+    last : drop i ds ≡ at ds i ∷ []
+    last = drop-cons ds i 0 (le-of-eq (sym h)) ∙ ap (at ds i ∷_) (drop-of-length-le ds (le-of-eq h))
 
 -- a variable more
 pub list-counts-next : (ds : List ℕ) (n i : ℕ) → i < length ds →

@@ -8,7 +8,7 @@ ghost use Rattle.meaning.specs.Fit.{columns};
 ghost use Rattle.weighted_poly_fit.specs.Listing.{pasted, listing, exponentsBefore, Listed};
 
 // The smaller of the two.
-fn lesser(a: usize, b: usize) -> usize
+pub(crate) fn lesser(a: usize, b: usize) -> usize
     ensures { λ r. ⌜ r ≡ min a b ⌝ }
 {
     if a < b { a } else { b }
