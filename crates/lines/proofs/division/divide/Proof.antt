@@ -46,8 +46,10 @@ divide-spec =
     let k = s .args in
     let h : k .done + 1 ≤ k .degree = omega arith in
     record { fits = omega (arith, mul-le-mul-left (k .stride) h, s .pre .2) })
-    (λ c. search needs) (λ c. search needs) (λ c. search needs) (λ c. search needs) (λ c. search needs) (λ c. search needs) (λ c κs. search needs) (λ c κs. search needs) (λ c. search needs) (λ c. search needs)
-    (λ c. search needs) (λ c. search needs) (λ c. simp length-set (omega arith)) (λ c. search needs) (λ c. search needs) (λ c. simp length-set (omega arith)) (λ c κs. search needs) (λ c κs. search needs) (λ c. search needs)
+    (λ c. search needs) (λ c. search needs) (λ c. search needs) (λ c. search needs) (λ c. search needs) (λ c. search needs) (λ c κs. search needs)
+    (λ c κs. search needs) (λ c. search needs) (λ c. search needs)
+    (λ c. search needs) (λ c. search needs) (λ c. simp length-set (omega arith)) (λ c. search needs) (λ c. search needs)
+    (λ c. simp length-set (omega arith)) (λ c κs. search needs) (λ c κs. search needs) (λ c. search needs)
     (λ c. simp length-set (omega arith))
     (λ c. search needs)
     (λ c.
@@ -62,7 +64,8 @@ divide-spec =
           divide-step (s .pre .0) (s .pre .2) (omega arith) (omega arith)
           (divide-step (s .pre .0) (s .pre .2) (omega arith) (omega arith) (l .loop .inv .2 f r) _ number) _ next,
     ))
-    (λ c. search needs) (λ c. search needs) (λ c. search needs) (λ c. search needs) (λ c. search needs) (λ c. search needs) (λ c κs. search needs) (λ c κs. search needs) (λ c. search needs) (λ c. search needs)
+    (λ c. search needs) (λ c. search needs) (λ c. search needs) (λ c. search needs) (λ c. search needs) (λ c. search needs) (λ c κs. search needs)
+    (λ c κs. search needs) (λ c. search needs) (λ c. search needs)
     (λ c. simp length-set (c .before .before .before .before .before .before .loop .inv .0))
     (λ c.
     let l = c .before .before .before .before .before .before in

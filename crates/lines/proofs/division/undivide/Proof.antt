@@ -45,8 +45,10 @@ undivide-spec =
     let k = s .args in
     let e : k .stride * (k .done + 1) ≡ k .stride * suc (k .done) = omega arith in
     (refl, omega arith, λ f r. rw e (undivide-start (s .pre .0) (s .pre .2) r)))
-    (λ c. search needs) (λ c. search needs) (λ c. search needs) (λ c. search needs) (λ c. search needs) (λ c κs. search needs) (λ c κs. search needs) (λ c. search needs) (λ c. search needs) (λ c. search needs)
-    (λ c. search needs) (λ c. simp length-set (omega arith)) (λ c. search needs) (λ c. search needs) (λ c. simp length-set (omega arith)) (λ c κs. search needs) (λ c κs. search needs) (λ c. search needs) (λ c. simp length-set (omega arith))
+    (λ c. search needs) (λ c. search needs) (λ c. search needs) (λ c. search needs) (λ c. search needs) (λ c κs. search needs) (λ c κs. search needs)
+    (λ c. search needs) (λ c. search needs) (λ c. search needs)
+    (λ c. search needs) (λ c. simp length-set (omega arith)) (λ c. search needs) (λ c. search needs) (λ c. simp length-set (omega arith))
+    (λ c κs. search needs) (λ c κs. search needs) (λ c. search needs) (λ c. simp length-set (omega arith))
     (λ c. search needs)
     (λ c. search needs)
     (λ c.
@@ -64,7 +66,8 @@ undivide-spec =
           (undivide-step (s .pre .0) (s .pre .2) (pow-pos 64) (omega arith) (omega arith)
           (undivide-step (s .pre .0) (s .pre .2) (pow-pos 64) (omega arith) (omega arith) (l .loop .inv .2 f r) _ number) _ next),
     ))
-    (λ c. search needs) (λ c. search needs) (λ c. search needs) (λ c. search needs) (λ c. search needs) (λ c κs. search needs) (λ c κs. search needs) (λ c. search needs) (λ c. search needs)
+    (λ c. search needs) (λ c. search needs) (λ c. search needs) (λ c. search needs) (λ c. search needs) (λ c κs. search needs) (λ c κs. search needs)
+    (λ c. search needs) (λ c. search needs)
     (λ c. simp length-set (c .before .before .before .before .before .before .loop .inv .0))
     (λ c.
     let l = c .before .before .before .before .before .before in

@@ -1,5 +1,5 @@
--- The measure is the number of degrees. A box that is one row is `extract_row`'s, one variable `extract_line`'s, two `extract_plane`'s. Else the loop: the sub-boxes below exponent e
--- pass and are done, and `bits` are those that e leaves; the first sub-box that fails makes the box fail.
+-- The measure is the number of degrees. A box that is one row is `extract_row`'s, one variable `extract_line`'s, two `extract_plane`'s. Else the loop: the
+-- sub-boxes below exponent e pass and are done, and `bits` are those that e leaves; the first sub-box that fails makes the box fail.
 use borrow.Author.Needs.{needs}
 use borrow.Author.Tests.{not-true, not-false}
 use mathlib.Core.Path.{_≡_, refl, sym, _∙_}
@@ -7,7 +7,8 @@ use Prim.Native.Nat.{ℕ, _+_, _-_, _/_, _≤_, _<_}
 use native.Mathlib.Omega.{arith}
 use lib.ListN.{length, take}
 use Rattle.meaning.specs.Tables.{at}
-use Rattle.multivar_poly_recovery.proofs.Servings.{laid-mask, serving-row, serving-masks, serving-units, serving-others, single, single-cells, double, double-cells}
+use Rattle.multivar_poly_recovery.proofs.Servings.{laid-mask, serving-row, serving-masks, serving-units, serving-others}
+use Rattle.multivar_poly_recovery.proofs.Servings.{single, single-cells, double, double-cells}
 use Rattle.multivar_poly_recovery.proofs.SubBoxes.{SubBoxes, promise-split, Layout, layout, subBoxes-start, subBox-fits, subBox-length, subBox-fails, subBoxes-step, subBoxes-done}
 use borrow.Fn.Kinds.{In}
 use borrow.Fn.PlainCycle.{Measures, is, falls, and}
