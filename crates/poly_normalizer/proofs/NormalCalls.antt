@@ -1,38 +1,44 @@
 -- Reducing what the conversion to falling factorials left gives the normal form.
-use mathlib.Core.Path.{_≡_, sym, _∙_, ap, ap₂}
-use mathlib.Core.Bool.{Bool, false, cond}
+use mathlib.Core.Path.{_≡_, sym, _∙_, ap}
+use mathlib.Core.Bool.{false, cond}
 use mathlib.Core.List.{List}
-use Prim.Native.Nat.{ℕ, _^_}
-use borrow.Author.Tests.{eq-eqb}
+use Prim.Native.Nat.{ℕ, _^_, _≤_, min}
 use lib.ListN.{length}
 use Rattle.meaning.specs.Boxes.{cells}
 use Rattle.meaning.specs.Values.{bound, boxReduced}
 use Rattle.meaning.specs.Conversions.{fallingBox, normalBox}
-use Rattle.meaning.specs.Settings.{callNumber, first}
-use Rattle.meaning.specs.Calls.{inOutNumber, convertLeft, reduceNumber, reduceLeft, left}
+use Rattle.meaning.specs.Settings.{tableLimit, widthFits}
+use Rattle.meaning.specs.Calls.{inOutNumber, convertLeft, left}
 use Rattle.theory.specs.Tables.{length-tabulate}
-use Rattle.theory.specs.AcceptedCalls.{ready}
+use Rattle.theory.specs.AcceptedCalls.{Ready, ready}
 use Rattle.theory.specs.ConversionLaws.{normalBox-eq}
+use Rattle.settings.specs.Causes.{ready-passes, ready-high, settings-cells-le}
+use Rattle.box_rows.specs.Rows.{holds}
+use Rattle.box_rows.specs.Held.{reduce-held}
 
-module _ (total w : ℕ) (support ds c out t : List ℕ) (accepted : inOutNumber false total w support ds c out ≡ 0)
-    (converted : t ≡ convertLeft total w support ds c out (fallingBox (2 ^ w) ds c)) where
-  -- the conversion was accepted
-  falling : t ≡ fallingBox (2 ^ w) ds c
-  unfolding convertLeft
-  falling = converted ∙ ap (λ (n : ℕ). left n (fallingBox (2 ^ w) ds c) out) accepted
+module _ (total w : ℕ) (support ds c out : List ℕ) (accepted : inOutNumber false total w support ds c out ≡ 0) where
+  passed : Ready false total w support ds c out
+  passed = ready false total w support ds c out accepted
 
-  size : length t ≡ cells ds
-  unfolding fallingBox
-  size = ap length falling ∙ length-tabulate (cells ds) _
+  -- there are at most twenty variables
+  pub variables-few : length support ≤ 20
+  variables-few = ready-passes passed .short
 
-  pub reduce-accepted : reduceNumber total w support ds t ≡ 0
-  unfolding reduceNumber callNumber
-  reduce-accepted =
-      ap₂ (λ (n : ℕ) (b : Bool). first n (cond b 0 9)) (ready false total w support ds c out accepted .settings) (eq-eqb (length t) (cells ds) size)
+  module _ (t : List ℕ) (converted : t ≡ convertLeft total w support ds c out (fallingBox (2 ^ w) ds c)) where
+    -- the conversion was accepted
+    falling : t ≡ fallingBox (2 ^ w) ds c
+    unfolding convertLeft
+    falling = converted ∙ ap (λ (n : ℕ). left n (fallingBox (2 ^ w) ds c) out) accepted
 
-  pub reduce-normal : reduceLeft total w support ds t ≡ normalBox w ds c
-  unfolding reduceLeft boxReduced
-  reduce-normal =
-      ap (λ (n : ℕ). left n (boxReduced (bound w) ds t) t) reduce-accepted
-      ∙ ap (boxReduced (bound w) ds) falling
-      ∙ sym (normalBox-eq w ds c)
+    size : length t ≡ cells ds
+    unfolding fallingBox
+    size = ap length falling ∙ length-tabulate (cells ds) _
+
+    pub reduced-normal : (x : List ℕ) → x ≡ cond (holds ds (length t)) (boxReduced (bound (min w 64)) ds t) t
+        → x ≡ convertLeft total w support ds c out (normalBox w ds c)
+    unfolding convertLeft boxReduced
+    reduced-normal x e =
+        reduce-held ds w (settings-cells-le tableLimit false total (widthFits w) support ds (passed .settings)) (ready-high passed) t x size e
+        ∙ ap (boxReduced (bound w) ds) falling
+        ∙ sym (normalBox-eq w ds c)
+        ∙ ap (λ (n : ℕ). left n (normalBox w ds c) out) (sym accepted)

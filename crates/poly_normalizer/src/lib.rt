@@ -33,6 +33,10 @@ pub fn normalize_polynomial(
 {
     match basis_transform::to_factorial_basis(coeffs, support, total, bitwidth, max_degree, out) {
         Outcome::Refused(refusal) => Outcome::Refused(refusal),
-        Outcome::Accepted => poly::reduce(out, support, total, bitwidth, max_degree),
+        Outcome::Accepted => {
+            let degrees = [max_degree; 20];
+            box_rows::reduce(out, &degrees[..support.len()], bitwidth);
+            Outcome::Accepted
+        }
     }
 }
