@@ -15,7 +15,7 @@ use Rattle.theory.specs.Words.{low-bits}
 use Rattle.theory.specs.Twos.{twos-factorial}
 use Rattle.theory.specs.LastVariable.{others, final, bound-last}
 use Rattle.theory.specs.Parts.{part, part-entry, put, filled-part}
-use Rattle.box_rows.specs.Walks.{Walk, walk-start, walk-exponent, walk-fits, walk-less, walk-part, walk-next}
+use Rattle.box_rows.specs.Walks.{Walk, walk-start, walk-lines, walk-exponent, walk-fits, walk-less, walk-part, walk-next}
 use Rattle.box_rows.specs.Rows.{Laid, row-mask}
 
 -- what a mask keeps
@@ -87,14 +87,6 @@ pub record Boxes (w : ℕ) (ds : List ℕ) (x : ℕ → ℕ) (t₀ t : List ℕ)
   pub bits : left ≡ w - twos (factorial e)
   pub filled : Filled (λ i. x i % bound w (digits ds i)) t₀ t from
 
--- of two variables the others are one
-line-others : (ds : List ℕ) → length ds ≡ 2 → at ds 0 + 1 ≡ cells (others ds)
-unfolding cells
-line-others [] h = absurd (suc-ne-zero 1 (sym h))
-line-others (d ∷ []) h = absurd (suc-ne-zero 0 (suc-inj (sym h)))
-line-others (d ∷ (y ∷ [])) h = omega arith
-line-others (d ∷ (y ∷ (z ∷ zs))) h = absurd (suc-ne-zero (length zs) (suc-inj (suc-inj h)))
-
 -- one exponent more
 pub left-next : (w left e more : ℕ) → left ≡ w - twos (factorial e) → more ≡ left - twos (e + 1) → more ≡ w - twos (factorial (e + 1))
 left-next w left e more h m = omega (arith, h, m, twos-factorial e)
@@ -105,7 +97,7 @@ module _ (w : ℕ) (ds : List ℕ) (x : ℕ → ℕ) (t₀ : List ℕ) where
   unfolding factorial twos twosIn
   boxes-lines h e size s =
       record {
-        walk = record { filled = omega arith; whole = e; sized = s ∙ line-others ds h; place = omega arith; within = omega arith };
+        walk = walk-lines ds (length t₀) h e size s;
         bits = omega arith;
         filled = filled-start _ t₀;
       }

@@ -20,7 +20,7 @@ use Rattle.meaning.specs.Recovery.{every}
 use Rattle.theory.specs.Every.{every-cong}
 use Rattle.theory.specs.LastVariable.{others, final, bound-last}
 use Rattle.theory.specs.Parts.{part, part-entry}
-use Rattle.box_rows.specs.Walks.{Walk, walk-start, walk-exponent, walk-fits, walk-next}
+use Rattle.box_rows.specs.Walks.{Walk, walk-start, walk-lines, walk-exponent, walk-fits, walk-next}
 use Rattle.box_rows.specs.Rows.{Laid, row-mask}
 use Rattle.box_rows.specs.Bounds.{isBelow}
 use Rattle.box_rows.proofs.Kept.{masked-number, line-bound, left-next}
@@ -140,16 +140,24 @@ pub record Passed (w : ℕ) (ds c : List ℕ) (size left e from : ℕ) : Type 0 
   pub rest : every (cells ds) (isBelow w ds c) ≡ every (length c - from) (λ i. isBelow w ds c (from + i))
 
 module _ (w : ℕ) (ds c : List ℕ) where
-  pub passed-start : 0 < length ds → length c ≡ cells ds → Passed w ds c (length c / (final ds + 1)) w 0 0
+  -- nothing is looked at yet
+  passed-none : (size : ℕ) → Walk ds (length c) size 0 0 → length c ≡ cells ds → Passed w ds c size w 0 0
   unfolding factorial twos twosIn
-  passed-start h e =
+  passed-none size walk e =
       record {
-        walk = walk-start ds (length c) h e;
+        walk = walk;
         bits = omega arith;
         rest =
             ap (λ (k : ℕ). every k (isBelow w ds c)) (sym e ∙ sym (sub-zero (length c)))
             ∙ every-cong (length c - 0) (λ i r. ap (isBelow w ds c) (sym (zero-add i)));
       }
+
+  pub passed-start : 0 < length ds → length c ≡ cells ds → Passed w ds c (length c / (final ds + 1)) w 0 0
+  passed-start h e = passed-none (length c / (final ds + 1)) (walk-start ds (length c) h e) e
+
+  -- two variables, whose sub-boxes are lines
+  pub passed-lines : length ds ≡ 2 → length c ≡ cells ds → (size : ℕ) → size ≡ at ds 0 + 1 → Passed w ds c size w 0 0
+  passed-lines h e size s = passed-none size (walk-lines ds (length c) h e size s) e
 
   module _ (size left e from : ℕ) (r : Passed w ds c size left e from) where
     module _ (h : from < length c) where

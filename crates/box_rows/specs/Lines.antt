@@ -1,5 +1,5 @@
--- The mask along a line: from one entry to the next it loses the twos in its number.
-use mathlib.Core.Path.{_≡_, _∙_, ap}
+-- The bits and the mask along a line: from one entry to the next they lose the twos in its number.
+use mathlib.Core.Path.{_≡_, refl, _∙_, ap}
 use Prim.Native.Nat.{ℕ, _+_, _-_, _/_, _^_, _≤_, min}
 use native.Mathlib.Nat.{min-eq-left}
 use native.Mathlib.Omega.{arith}
@@ -7,15 +7,25 @@ use Rattle.meaning.specs.Factorials.{factorial, twosIn, twos}
 use Rattle.theory.specs.Twos.{twos-factorial}
 use Rattle.box_rows.specs.Rows.{mask-less}
 
--- the mask of entry i of a line
+-- the bits that are left at entry i of a line, and the mask
+abbrev pub LineBits : ℕ → ℕ → ℕ → Type 0
+LineBits w i bits = bits ≡ w - twos (factorial i)
+
 abbrev pub LineMask : ℕ → ℕ → ℕ → Type 0
 LineMask w i mask = mask ≡ 2 ^ (w - twos (factorial i)) - 1
 
-pub line-start : (w mask : ℕ) → w ≤ 64 → mask ≡ 2 ^ min w 64 - 1 → LineMask w 0 mask
+pub line-full : (w : ℕ) → LineBits w 0 w
 unfolding factorial twos twosIn
-line-start w mask h e = e ∙ ap (λ (k : ℕ). 2 ^ k - 1) (omega (arith, min-eq-left h))
+line-full w = omega arith
+
+pub line-start : (w mask : ℕ) → w ≤ 64 → mask ≡ 2 ^ min w 64 - 1 → LineMask w 0 mask
+line-start w mask h e = e ∙ ap (λ (k : ℕ). 2 ^ k - 1) (min-eq-left h ∙ line-full w)
+
+pub line-bits : (w i bits t : ℕ) → LineBits w i bits → t ≡ twos (i + 1) → LineBits w (i + 1) (bits - t)
+line-bits w i bits t e s = omega (arith, s, twos-factorial i)
 
 pub line-next : (w i mask t : ℕ) → LineMask w i mask → t ≡ twos (i + 1) → LineMask w (i + 1) (mask / 2 ^ t)
 line-next w i mask t e s =
-    let less : w - twos (factorial i) - t ≡ w - twos (factorial (i + 1)) = omega (arith, s, twos-factorial i) in
-    ap (_/ 2 ^ t) e ∙ mask-less (w - twos (factorial i)) t ∙ ap (λ (k : ℕ). 2 ^ k - 1) less
+    ap (_/ 2 ^ t) e
+    ∙ mask-less (w - twos (factorial i)) t
+    ∙ ap (λ (k : ℕ). 2 ^ k - 1) (line-bits w i (w - twos (factorial i)) t refl s)

@@ -1,10 +1,11 @@
 -- Loops over the sub-boxes of the last variable. A walk is at the last exponent e and at the cell where its sub-box begins.
 use mathlib.Core.Path.{_≡_, sym, _∙_, ap}
-use mathlib.Core.List.{List}
+use mathlib.Core.List.{List, [], _∷_}
 use Prim.Native.Nat.{ℕ, suc, _+_, _*_, _-_, _/_, _≤_, _<_, suc-le-suc}
-use native.Mathlib.Nat.{mul-comm, lt-of-mul-lt-mul-right, le-of-mul-le-mul-right, mul-le-mul-right, le-of-suc-le-suc}
+use native.Mathlib.Nat.{mul-comm, lt-of-mul-lt-mul-right, le-of-mul-le-mul-right, mul-le-mul-right, le-of-suc-le-suc, suc-ne-zero, suc-inj}
 use native.Mathlib.Omega.{arith}
 use lib.ListN.{length}
+use Rattle.meaning.specs.Tables.{at}
 use Rattle.meaning.specs.Boxes.{cells}
 use Rattle.theory.specs.Boxes.{cells-pos}
 use Rattle.theory.specs.LastVariable.{others, final, cells-last, size-last}
@@ -23,6 +24,19 @@ pub record Walk (ds : List ℕ) (n size e from : ℕ) : Type 0 where
 pub walk-start : (ds : List ℕ) (n : ℕ) → 0 < length ds → n ≡ cells ds → Walk ds n (n / (final ds + 1)) 0 0
 walk-start ds n h e =
     record { filled = h; whole = e; sized = size-last ds h n e; place = omega arith; within = omega arith }
+
+-- of two variables the others are one
+line-others : (ds : List ℕ) → length ds ≡ 2 → at ds 0 + 1 ≡ cells (others ds)
+unfolding cells
+line-others [] h = absurd (suc-ne-zero 1 (sym h))
+line-others (d ∷ []) h = absurd (suc-ne-zero 0 (suc-inj (sym h)))
+line-others (d ∷ (y ∷ [])) h = omega arith
+line-others (d ∷ (y ∷ (z ∷ zs))) h = absurd (suc-ne-zero (length zs) (suc-inj (suc-inj h)))
+
+-- two variables, whose sub-boxes are lines
+pub walk-lines : (ds : List ℕ) (n : ℕ) → length ds ≡ 2 → n ≡ cells ds → (size : ℕ) → size ≡ at ds 0 + 1 → Walk ds n size 0 0
+walk-lines ds n h e size s =
+    record { filled = omega arith; whole = e; sized = s ∙ line-others ds h; place = omega arith; within = omega arith }
 
 module _ {ds : List ℕ} {n size e from : ℕ} (w : Walk ds n size e from) where
   all : n ≡ suc (final ds) * size

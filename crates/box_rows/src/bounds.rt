@@ -44,8 +44,29 @@ fn bounded_row(coeffs: &[u64], masks: &[u64], bits: u32) -> bool
     over == 0
 }
 
+// Two variables, line by line, up to the first line with a coefficient that is not below its bound.
+fn bounded_plane(coeffs: &[u64], degrees: &[u8], bits: u32) -> bool
+    requires { ⌜ (length (now coeffs) ≡ cells (now degrees)) × (bits ≤ 64) × (length (now degrees) ≡ 2) ⌝ }
+    ensures { λ r. ⌜ r ≡ every (cells (now (degrees .entry))) (isBelow bits (now (degrees .entry)) (now (coeffs .entry))) ⌝ }
+{
+    let size = degrees[0] as usize + 1;
+    let mut left = bits;
+    let mut e: usize = 0;
+    let mut from = 0;
+    while from < coeffs.len() {
+        let end = from + size;
+        if !bounded_line(&coeffs[from..end], left) {
+            return false;
+        }
+        from = end;
+        e += 1;
+        left = layout::bits_left(left, e);
+    }
+    true
+}
+
 // The box of `degrees`, of which the first ones make rows: each sub-box of the last variable in turn, up to the first with a coefficient that is not below
-// its bound. Where no variable makes rows the walk ends at a line, and where no bits are left at once, since any line then serves.
+// its bound. Where no variable makes rows the walk ends at two variables, and where no bits are left at once, since any line then serves.
 fn bounded_box(coeffs: &[u64], degrees: &[u8], first: usize, masks: &[u64], bits: u32) -> bool
     requires { ⌜ (length (now coeffs) ≡ cells (now degrees)) × (bits ≤ 64) ⌝ }
     requires { ⌜ Rowed first (now degrees) (now masks) ⌝ }
@@ -57,8 +78,8 @@ fn bounded_box(coeffs: &[u64], degrees: &[u8], first: usize, masks: &[u64], bits
     if degrees.len() == first {
         return bounded_row(coeffs, masks, bits);
     }
-    if degrees.len() == 1 {
-        return bounded_line(coeffs, bits);
+    if degrees.len() + first == 2 {
+        return bounded_plane(coeffs, degrees, bits);
     }
     let last = degrees.len() - 1;
     let size = coeffs.len() / (degrees[last] as usize + 1);

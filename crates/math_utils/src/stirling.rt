@@ -1,13 +1,14 @@
 // Tables of Stirling numbers modulo 2^w, filled row by row: a table of degree n has n + 1 rows of n + 1 entries.
 ghost use mathlib.Core.Path.{_≡_};
-ghost use Prim.Native.Nat.{ℕ, _+_, _*_, _≤_, _<_};
+ghost use Prim.Native.Nat.{ℕ, _+_, _*_, _%_, _^_, _≤_, _<_};
 ghost use mathlib.Core.List.{List};
 ghost use lib.ListN.{length};
 ghost use Rattle.meaning.specs.Tables.{tabulate};
 ghost use Rattle.meaning.specs.Leaves.{stirling1Table, stirling2Table, stirlingNumber, stirlingLeft};
 ghost use Rattle.answers.specs.Said.{saidNumber};
 ghost use Rattle.theory.specs.Tables.{Filled};
-ghost use Rattle.math_utils.specs.Kinds.{entry, next, table, Zeros};
+ghost use Rattle.math_utils.specs.Kinds.{entry, factor, Factors, table, Zeros};
+ghost use Rattle.math_utils.specs.declared.stirling.Kind.{Kind};
 use answers::Outcome;
 use answers::Refusal;
 
@@ -17,36 +18,67 @@ pub(crate) enum Kind {
     Second,
 }
 
-// The entry of row i and column j, both above 0, from the entries of the row before.
-fn next_entry(kind: Kind, i: u64, j: u64, above: u64, left: u64, bitwidth: u32) -> u64
-    requires { ⌜ (1 ≤ i) × (bitwidth ≤ 64) ⌝ }
-    ensures { λ r. ⌜ r ≡ next kind bitwidth i j above left ⌝ }
+// The factor of the entry above, as a word, in column 1 of row i: 1 for the second kind, and 1 - i, which wraps, for the first.
+fn first_factor(kind: Kind, i: u64) -> u64
+    ensures { λ r. ⌜ r ≡ factor kind i 1 ⌝ }
 {
     match kind {
-        Kind::First => { arith::mod_sub(left, arith::mod_mul(i - 1, above, bitwidth), bitwidth) }
-        Kind::Second => { arith::mod_add(arith::mod_mul(j, above, bitwidth), left, bitwidth) }
+        Kind::First => arith::wrapping_sub(1, i),
+        Kind::Second => 1,
     }
 }
 
-// Row i, which is zero, from the row before it, which begins at `from`. Above the diagonal it stays zero.
-fn fill_row(kind: Kind, table: &mut [u64], side: usize, from: usize, i: usize, bitwidth: u32)
+// What it grows by from one column to the next.
+fn factor_step(kind: Kind) -> u64
+    ensures { λ r. ⌜ ((i j : ℕ) → factor kind i (j + 1) ≡ (factor kind i j + r) % 2 ^ 64) ⌝ }
+{
+    match kind {
+        Kind::First => 0,
+        Kind::Second => 1,
+    }
+}
+
+// An entry from the one above and the one left of that.
+fn next_entry(left: u64, factor: u64, above: u64, bitwidth: u32) -> u64
+    requires { ⌜ bitwidth ≤ 64 ⌝ }
+    ensures { λ r. ⌜ r ≡ (left + factor * above) % 2 ^ bitwidth ⌝ }
+{
+    arith::mod_add(left, arith::wrapping_mul(factor, above), bitwidth)
+}
+
+// Row i, which is zero, from the row before it, which begins at `from`, with the factors `first`, `first` + `step`, .. of its columns 1, 2, ... Above the
+// diagonal it stays zero. Two entries a turn, since the compiler would make a vector loop of single ones, which in a short row waits for what was just
+// stored.
+fn fill_row(
+    table: &mut [u64],
+    side: usize,
+    from: usize,
+    i: usize,
+    first: u64,
+    step: u64,
+    bitwidth: u32,
+)
     requires { ⌜ (0 < i) × (i < side) × (from + side + side ≤ length (now table)) × (from + side ≡ i * side) ⌝ }
     requires { ⌜ bitwidth ≤ 64 ⌝ }
-    ensures { λ r. ⌜ ((t : List ℕ) → Zeros t → Filled (entry kind bitwidth side) t (now (table .entry)) (i * side)
+    ensures { λ r. ⌜ ((kind : Kind) (t : List ℕ) → Factors kind i first step → Zeros t
+        → Filled (entry kind bitwidth side) t (now (table .entry)) (i * side)
         → Filled (entry kind bitwidth side) t (now (table .exit)) (i * side + side)) ⌝ }
 {
+    let mut factor = first;
+    let mut left = table[from];
     let mut j = 1;
-    while j <= i {
-        let next = next_entry(
-            kind,
-            i as u64,
-            j as u64,
-            table[from + j],
-            table[from + j - 1],
-            bitwidth,
-        );
-        table[from + side + j] = next;
-        j += 1;
+    while j < i {
+        let above = table[from + j];
+        let after = table[from + j + 1];
+        let second = std::num::wrapping_add_u64(factor, step);
+        table[from + side + j] = next_entry(left, factor, above, bitwidth);
+        table[from + side + j + 1] = next_entry(above, second, after, bitwidth);
+        left = after;
+        factor = std::num::wrapping_add_u64(second, step);
+        j += 2;
+    }
+    if j == i {
+        table[from + side + i] = next_entry(left, factor, table[from + i], bitwidth);
     }
 }
 
@@ -57,10 +89,12 @@ fn fill(kind: Kind, table: &mut [u64], side: usize, bitwidth: u32)
 {
     tables::clear(table);
     table[0] = 1;
+    let step = factor_step(kind);
     let mut from = 0;
     let mut i = 1;
     while i < side {
-        fill_row(kind, table, side, from, i, bitwidth);
+        let first = first_factor(kind, i as u64);
+        fill_row(table, side, from, i, first, step, bitwidth);
         from += side;
         i += 1;
     }

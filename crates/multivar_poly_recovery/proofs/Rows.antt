@@ -17,6 +17,7 @@ use Rattle.theory.specs.LastVariable.{weight-append}
 use Rattle.multivar_poly_recovery.proofs.CellFactors.{inverse-parts, inverse-more, divides-cut, coefficient-cut}
 use Rattle.multivar_poly_recovery.specs.Tested.{Testing, testing-start, testing-step, testing-done, tested-fails}
 use Rattle.box_rows.specs.Rows.{row-mask}
+use Rattle.box_rows.specs.Lines.{LineBits}
 use Rattle.multivar_poly_recovery.specs.declared.extraction.Cell.{Cell}
 use Rattle.multivar_poly_recovery.specs.Extracted.{cellOf, test, number, Extracted, Row, Inverses}
 
@@ -48,36 +49,37 @@ pub record OfLine (w left v : ℕ) (inverses t₀ ds hs : List ℕ) : Type 0 whe
   pub table : Inverses inverses
   pub handed : Handed w left v hs
 
--- the mask and the inverse of cell i are right
-pub record Right (w : ℕ) (ds hs : List ℕ) (i ones u : ℕ) : Type 0 where
+-- the bits that are left and the inverse are those of cell i
+pub record Right (w : ℕ) (ds hs : List ℕ) (i bits u : ℕ) : Type 0 where
   pub inside : i < cells ds
-  pub ones-left : ones ≡ 2 ^ (w - weight (digits ds i ++ hs)) - 1
+  pub bits-left : bits ≡ w - weight (digits ds i ++ hs)
   pub unit : u ≡ inverse (oddFactor (digits ds i ++ hs)) 64
 
-pub right-row : (w left v : ℕ) (masks units t₀ ds hs : List ℕ) (i ones u : ℕ) → OfRow w left v masks units t₀ ds hs → i < length t₀ → left ≤ 64
-    → ones ≡ at masks i / 2 ^ (64 - left) → u ≡ (v * at units i) % 2 ^ 64 → Right w ds hs i ones u
+pub right-row : (w left v : ℕ) (masks units t₀ ds hs : List ℕ) (i ones bits u : ℕ) → OfRow w left v masks units t₀ ds hs → i < length t₀ → left ≤ 64
+    → ones ≡ at masks i / 2 ^ (64 - left) → ((b : ℕ) → b ≤ 64 → ones ≡ 2 ^ b - 1 → bits ≡ b) → u ≡ (v * at units i) % 2 ^ 64 → Right w ds hs i bits u
 unfolding bound
-right-row w left v masks units t₀ ds hs i ones u r h small o e =
+right-row w left v masks units t₀ ds hs i ones bits u r h small o counted e =
     let inside : i < cells ds = rw (r .long) at h in
     let es = digits ds i in
     let left-over : left - weight es ≡ w - weight (es ++ hs) = omega (arith, r .handed .bits, weight-append es hs) in
     record {
       inside = inside;
-      ones-left = o ∙ ap (_/ 2 ^ (64 - left)) (r .row .laid i inside) ∙ row-mask left es small ∙ ap (λ (k : ℕ). 2 ^ k - 1) left-over;
+      bits-left =
+          counted (left - weight es) (omega arith) (o ∙ ap (_/ 2 ^ (64 - left)) (r .row .laid i inside) ∙ row-mask left es small) ∙ left-over;
       unit = e ∙ ap₂ (λ (y z : ℕ). (y * z) % 2 ^ 64) (r .handed .unit) (r .row .inverts i inside) ∙ inverse-parts es hs;
     }
 
-pub right-line : (w left v : ℕ) (inverses t₀ ds hs : List ℕ) (i ones u : ℕ) → OfLine w left v inverses t₀ ds hs → i < length t₀ → length t₀ ≤ length inverses
-    → ones ≡ 2 ^ (left - twos (factorial i)) - 1 → u ≡ (v * at inverses i) % 2 ^ 64 → Right w ds hs i ones u
+pub right-line : (w left v : ℕ) (inverses t₀ ds hs : List ℕ) (i bits u : ℕ) → OfLine w left v inverses t₀ ds hs → i < length t₀ → length t₀ ≤ length inverses
+    → LineBits left i bits → u ≡ (v * at inverses i) % 2 ^ 64 → Right w ds hs i bits u
 unfolding cells digits weight
-right-line w left v inverses t₀ ds hs i ones u r h room o e =
+right-line w left v inverses t₀ ds hs i bits u r h room b e =
     let d = r .degree in
     let small : i < suc d = rw (r .long) at h in
     let exponents : digits ds i ++ hs ≡ i ∷ hs = ap (λ (l : List ℕ). digits l i ++ hs) (r .one) ∙ ap (_∷ hs) (mod-eq-of-lt small) in
     let left-over : left - twos (factorial i) ≡ w - weight (i ∷ hs) = omega (arith, r .handed .bits) in
     record {
       inside = rw (r .one) (omega arith);
-      ones-left = o ∙ ap (λ (k : ℕ). 2 ^ k - 1) (left-over ∙ ap (λ (l : List ℕ). w - weight l) (sym exponents));
+      bits-left = b ∙ left-over ∙ ap (λ (l : List ℕ). w - weight l) (sym exponents);
       unit =
           e
           ∙ ap₂ (λ (y z : ℕ). (y * z) % 2 ^ 64) (r .handed .unit) (r .table i (omega arith))
@@ -101,9 +103,9 @@ module _ (Fits : List ℕ → List ℕ → Type 0) (w : ℕ) (t₀ : List ℕ) w
   pub row-start : InRow Fits w t₀ t₀ 0
   row-start = record { same = refl; within = zero-le; testing = λ ds hs k. testing-start _ _ t₀ }
 
-  module _ (t : List ℕ) (i ones u : ℕ) (r : InRow Fits w t₀ t i) (h : i < length t) (small : w ≤ 64)
-      (right : (ds hs : List ℕ) → Fits ds hs → Right w ds hs i ones u) (x : Cell)
-      (came : (q : ℕ) → ones ≡ 2 ^ (w - q) - 1
+  module _ (t : List ℕ) (i bits u : ℕ) (r : InRow Fits w t₀ t i) (h : i < length t) (small : w ≤ 64)
+      (right : (ds hs : List ℕ) → Fits ds hs → Right w ds hs i bits u) (x : Cell)
+      (came : (q : ℕ) → bits ≡ w - q
       → x ≡ cellOf (eqb (at t i % 2 ^ w % 2 ^ min q w) 0) ((at t i % 2 ^ w / 2 ^ q * u) % 2 ^ (w - q))) where
     module _ (ds hs : List ℕ) (fits : Fits ds hs) where
       before : Testing (test w ds hs t₀) (number w ds hs t₀) t₀ t i
@@ -117,7 +119,7 @@ module _ (Fits : List ℕ → List ℕ → Type 0) (w : ℕ) (t₀ : List ℕ) w
           let k = right ds hs fits in
           let es = digits ds i ++ hs in
           let q = weight es in
-          came q (k .ones-left)
+          came q (k .bits-left)
           ∙ ap (λ (y : ℕ). cellOf (eqb (y % 2 ^ w % 2 ^ min q w) 0) ((y % 2 ^ w / 2 ^ q * u) % 2 ^ (w - q))) read
           ∙ ap₂ cellOf (divides-cut w es q (at t₀ i % 2 ^ w) refl)
           (ap (λ (y : ℕ). (at t₀ i % 2 ^ w / 2 ^ q * y) % 2 ^ (w - q)) (k .unit) ∙ coefficient-cut w es q (at t₀ i % 2 ^ w) refl small)

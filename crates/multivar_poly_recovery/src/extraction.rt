@@ -40,11 +40,11 @@ fn mask_left(mask: u64, left: u32) -> u64
     mask >> (64 - left)
 }
 
-// The difference x modulo 2^bitwidth, over 2^q and times v, modulo 2^(bitwidth - q), where 2^q divides it; where q is the width or more, 0 if it is 0. The
-// mask has bitwidth - q ones.
-fn extract_cell(x: u64, ones: u64, v: u64, bitwidth: u32) -> Cell
-    requires { ⌜ (bitwidth ≤ 64) × Mask bitwidth ones ⌝ }
-    ensures { λ r. ⌜ ((q : ℕ) → ones ≡ 2 ^ (bitwidth - q) - 1
+// The difference x modulo 2^bitwidth, over 2^q and times v, modulo 2^(bitwidth - q), where 2^q divides it; where q is the width or more, 0 if it is 0. So
+// many `bits` are left of the width, and the mask has as many ones.
+fn extract_cell(x: u64, ones: u64, bits: u32, v: u64, bitwidth: u32) -> Cell
+    requires { ⌜ (bits ≤ bitwidth) × (bitwidth ≤ 64) × (ones ≡ 2 ^ bits - 1) ⌝ }
+    ensures { λ r. ⌜ ((q : ℕ) → bits ≡ bitwidth - q
         → r ≡ cellOf (eqb (x % 2 ^ bitwidth % 2 ^ min q bitwidth) 0) ((x % 2 ^ bitwidth / 2 ^ q * v) % 2 ^ (bitwidth - q))) ⌝ }
 {
     let kept = x & arith::bitmask(bitwidth);
@@ -54,7 +54,7 @@ fn extract_cell(x: u64, ones: u64, v: u64, bitwidth: u32) -> Cell
         }
         return Cell::Refused;
     }
-    let q = bitwidth - ones_in(ones);
+    let q = bitwidth - bits;
     let high = kept >> q;
     if high << q != kept {
         return Cell::Refused;
@@ -82,7 +82,8 @@ fn extract_row(
     while i < part.len() {
         let unit = arith::wrapping_mul(v, units[i]);
         let ones = mask_left(masks[i], left);
-        let Cell::Coefficient(c) = extract_cell(part[i], ones, unit, bitwidth) else {
+        let bits = ones_in(ones);
+        let Cell::Coefficient(c) = extract_cell(part[i], ones, bits, unit, bitwidth) else {
             return false;
         };
         part[i] = c;
@@ -91,8 +92,8 @@ fn extract_row(
     true
 }
 
-// One line, where the exponents of the other variables leave `left` bits, and v is the inverse of the odd part: the same, with the mask that loses the twos in
-// its number from one entry to the next.
+// One line, where the exponents of the other variables leave `left` bits, and v is the inverse of the odd part: the same, with bits and a mask that lose the
+// twos in its number from one entry to the next.
 fn extract_line(part: &mut [u64], left: u32, v: u64, bitwidth: u32, inverses: &[u64]) -> bool
     requires { ⌜ (length (now part) ≤ length (now inverses)) × (left ≤ bitwidth) × (bitwidth ≤ 64) ⌝ }
     ensures { λ r. ⌜ ((d : ℕ) (hs : List ℕ) → Inverses (now (inverses .entry)) → length (now (part .entry)) ≡ suc d
@@ -100,15 +101,17 @@ fn extract_line(part: &mut [u64], left: u32, v: u64, bitwidth: u32, inverses: &[
         → Extracted bitwidth (d ∷ []) hs (now (part .entry)) (now (part .exit)) r) ⌝ }
 {
     let mut ones = arith::bitmask(left);
+    let mut bits = left;
     let mut i = 0;
     while i < part.len() {
         let unit = arith::wrapping_mul(v, inverses[i]);
-        let Cell::Coefficient(c) = extract_cell(part[i], ones, unit, bitwidth) else {
+        let Cell::Coefficient(c) = extract_cell(part[i], ones, bits, unit, bitwidth) else {
             return false;
         };
         part[i] = c;
         i += 1;
         ones = box_rows::layout::next_mask(ones, i);
+        bits = box_rows::layout::bits_left(bits, i);
     }
     true
 }

@@ -1,15 +1,15 @@
--- The measure is the number of degrees. Lines and rows are those of `bounded_line` and `bounded_row`. Else the loop: the sub-boxes below the last exponent e
--- pass (`Passed`), and `left` are the bits that e leaves.
+-- The measure is the number of degrees. Lines, rows and planes are those of `bounded_line`, `bounded_row` and `bounded_plane`. Else the loop: the sub-boxes
+-- below the last exponent e pass (`Passed`), and `left` are the bits that e leaves.
 use borrow.Author.Needs.{needs}
 use borrow.Author.Tests.{not-true, not-false}
-use mathlib.Core.Path.{refl, sym, _∙_}
+use mathlib.Core.Path.{_≡_, refl, sym, _∙_}
 use Prim.Native.Nat.{ℕ, _+_, _-_, _/_, _≤_, _<_}
 use native.Mathlib.Omega.{arith}
 use lib.ListN.{length}
 use Rattle.theory.specs.LastVariable.{final, length-others}
 use Rattle.box_rows.specs.Rows.{rowed-whole, rowed-others}
 use Rattle.box_rows.specs.Walks.{walk-exponent, walk-less, walk-part}
-use Rattle.box_rows.proofs.Over.{bounded-none, bounded-one, Passed, passed-start, passed-fits, passed-few, passed-fails, passed-next, passed-done}
+use Rattle.box_rows.proofs.Over.{bounded-none, Passed, passed-start, passed-fits, passed-few, passed-fails, passed-next, passed-done}
 use borrow.Fn.Kinds.{In}
 use borrow.Fn.PlainCycle.{Measures, is, falls, and}
 use Rattle.box_rows.proofs.bounds.bounded_box.Reads as reads
@@ -18,6 +18,7 @@ use Rattle.box_rows.proofs.bounds.+bounded_box.Lts-bounded_box as lts
 use Rattle.box_rows.proofs.layout.bits_left.Reads as bits-left-reads
 use Rattle.box_rows.proofs.bounds.bounded_line.Reads as bounded-line-reads
 use Rattle.box_rows.proofs.bounds.bounded_row.Reads as bounded-row-reads
+use Rattle.box_rows.proofs.bounds.bounded_plane.Reads as bounded-plane-reads
 use Rattle.box_rows.proofs.bounds.+bounded_box.{statement}
 use Rattle.box_rows.proofs.bounds.+bounded_box.Tie.{close}
 
@@ -37,6 +38,8 @@ calls t = (
   bounded-line-reads.Learnt,
   bounded-row-reads.Asked,
   bounded-row-reads.Learnt,
+  bounded-plane-reads.Asked,
+  bounded-plane-reads.Learnt,
   below t,
   reads.Post,
   bits-left-reads.Asked,
@@ -59,8 +62,12 @@ none-left t c = c .before .before .before .before
 abbrev one-row : (t : ℕ) → lts.Then2 (calls t) (here t) reads.Post Inv-loop μ-loop → Lent t
 one-row t c = c .before .before .before .before .before
 
-abbrev one-line : (t : ℕ) → lts.Then3 (calls t) (here t) reads.Post Inv-loop μ-loop → Lent t
-one-line t c = c .before .before .before .before .before .before
+abbrev plane : (t : ℕ) → lts.Then3 (calls t) (here t) reads.Post Inv-loop μ-loop → Lent t
+plane t c = c .before .before .before .before .before .before
+
+-- with a variable that makes no rows, two variables together are two without rows
+two : (t : ℕ) (c : lts.Then3 (calls t) (here t) reads.Post Inv-loop μ-loop) → length (plane t c .args .degrees .now) ≡ 2
+two t c = omega (arith, plane t c .pre .1 .1 .within, c .before .if2 .left, c .if3 .taken)
 
 -- a variable is left that makes no rows
 abbrev Larger : ℕ → Type 0
@@ -109,11 +116,9 @@ pub +bounded-box-spec : {M : Type 1} → statement M
     let h = c .before in
     let s = one-row t h in
     c .bounded-row .ensures _ (rowed-whole _ _ _ (s .pre .1 .1) (h .if2 .taken) .0) (s .pre .1 .0 .0))
-    (λ c κs. search needs)
-    (λ c.
-    let h = c .before in
-    let s = one-line t h in
-    c .bounded-line2 .ensures ∙ bounded-one (s .args .bits) _ (s .args .coeffs .now) (s .pre .1 .0 .0) (h .if3 .taken))
+    (λ c. search needs)
+    (λ c κs. let s = plane t c in (s .pre .1 .0 .0, s .pre .1 .0 .1, two t c))
+    (λ c. c .bounded-plane .ensures)
     (λ c. omega (arith, some t c))
     (λ c. omega (arith, some t (c .before)))
     (λ c. let n = length (lent t (c .before) .args .degrees .now) - 1 in omega (arith, c .shared-slice-known4 .given n))

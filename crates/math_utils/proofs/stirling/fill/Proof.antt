@@ -1,39 +1,44 @@
 -- The loop: the rows before row i are filled, and the others are zero; the row before row i begins at `from`.
 use borrow.Author.Needs.{needs}
-use mathlib.Core.Path.{_≡_, sym, _∙_, ap, subst}
-use mathlib.Core.List.{List}
+use mathlib.Core.Path.{_≡_, sym, _∙_, ap}
 use Prim.Native.Nat.{ℕ, _+_, _*_, _-_, _≤_}
 use native.Mathlib.Nat.{suc-mul, mul-pos, mul-le-mul}
 use native.Mathlib.Numerals.{add-one}
 use native.Mathlib.Omega.{arith}
-use denote.Ref.{now}
-use lib.ListN.{length, length-set}
-use Rattle.meaning.specs.Tables.{tabulate}
-use Rattle.theory.specs.Tables.{Filled, length-tabulate, at-tabulate-zero}
-use Rattle.math_utils.specs.Kinds.{entry}
+use lib.ListN.{length}
+use Rattle.theory.specs.Tables.{length-tabulate, at-tabulate-zero}
+use Rattle.math_utils.specs.Kinds.{Factors}
 use Rattle.math_utils.proofs.Entries.{Rows, row-fits, rows-start, rows-length, rows-step, rows-done}
 use Rattle.math_utils.proofs.stirling.fill.Statement.{statement}
 use Rattle.math_utils.proofs.stirling.fill.Tie as tie
 
 abbrev Inv-loop : tie.InvT-loop
-Inv-loop kind table₀ side bitwidth from₀ i₀ table from i =
+Inv-loop kind table₀ side bitwidth step from₀ i₀ table from i =
     (1 ≤ i) × (i ≤ side) × (from + side ≤ 65536) × (from + side ≡ i * side) × Rows kind bitwidth side table i
 
 abbrev μ-loop : tie.MeasureT-loop
-μ-loop kind table₀ side bitwidth from₀ i₀ table from i = side - i
+μ-loop kind table₀ side bitwidth step from₀ i₀ table from i = side - i
 
 -- what is asked at the entry, and the rows' places in a turn
 abbrev start : tie.At-loop Inv-loop μ-loop → tie.Start Inv-loop μ-loop
-start l = l .before .before .before .before .before .before
+start l = l .before .before .before .before .before .before .before
+
+abbrev rows : tie.After-slice-known3 Inv-loop μ-loop → tie.After-fill-row Inv-loop μ-loop
+rows c = c .before .before
 
 abbrev turn : tie.After-slice-known3 Inv-loop μ-loop → tie.At-loop Inv-loop μ-loop
-turn c = c .before .before .before .before .before
+turn c = rows c .before .before .before .before
 
 square : {side : ℕ} → side ≤ 256 → side * side ≤ 65536
 square h = mul-le-mul h h
 
 room : (l : tie.At-loop Inv-loop μ-loop) → length (l .loop .table) ≡ start l .args .side * start l .args .side
 room l = let a = start l .args in rows-length (a .kind) (a .bitwidth) (a .side) (l .loop .table) (l .loop .i) (l .loop .inv .4)
+
+-- what the row's factors are
+factors : (c : tie.After-first-factor Inv-loop μ-loop) →
+    let l = c .before .before in Factors (start l .args .kind) (l .loop .i) (c .first-factor .result) (l .before .factor-step .result)
+factors c = let l = c .before .before in record { begins = c .first-factor .ensures; grows = l .before .factor-step .ensures (l .loop .i) }
 
 clear-requires : tie.Need-clear-requires Inv-loop μ-loop
 clear-requires c κs = search needs
@@ -43,17 +48,24 @@ slice-write-table c =
     let s = c .before .before .before .before .before in
     rw (ap length (c .before .before .clear .ensures) ∙ length-tabulate _ _ ∙ s .pre .2) (mul-pos (s .pre .0) (s .pre .0))
 
+factor-step-requires : tie.Need-factor-step-requires Inv-loop μ-loop
+factor-step-requires c κs = search needs
+
 loop-holds : tie.Need-loop-holds Inv-loop μ-loop
 loop-holds c =
-    let s = c .before .before .before .before .before in
+    let s = c .before .before .before .before .before .before in
     let p = s .pre in
-    (omega arith, p .0, omega arith, omega arith, rows-start (s .args .kind) (s .args .bitwidth) (s .args .side) _ _ (c .before .before .clear .ensures) (p .2) (p .3) (p .0))
+    (omega arith, p .0, omega arith, omega arith, rows-start (s .args .kind) (s .args .bitwidth) (s .args .side) _ _ (c .before .before .before .clear .ensures) (p .2) (p .3) (p .4) (p .0))
+
+first-factor-requires : tie.Need-first-factor-requires Inv-loop μ-loop
+first-factor-requires c κs = search needs
 
 fill-row-requires : tie.Need-fill-row-requires Inv-loop μ-loop
 fill-row-requires c κs =
-    let l = c .before .before in
+    let t = c .before .before in
+    let l = t .before in
     let s = start l in
-    ((omega arith, c .before .loop-test .taken, omega (arith, room l, row-fits (s .args .side) (l .loop .i) (c .before .loop-test .taken)), l .loop .inv .3), s .pre .4)
+    ((omega arith, t .loop-test .taken, omega (arith, room l, row-fits (s .args .side) (l .loop .i) (t .loop-test .taken)), l .loop .inv .3), s .pre .4)
 
 add-from : tie.Need-add-from Inv-loop μ-loop
 add-from c = search needs
@@ -71,10 +83,10 @@ loop-again c =
     let row : (l .loop .i + 1) * a .side ≡ l .loop .i * a .side + a .side = ap (_* a .side) (add-one _) ∙ suc-mul _ _ in (
       omega arith,
       omega arith,
-      omega (arith, row, l .loop .inv .3, row-fits (a .side) (l .loop .i) (c .before .before .before .before .loop-test .taken), square (start l .pre .1)),
+      omega (arith, row, l .loop .inv .3, row-fits (a .side) (l .loop .i) (rows c .before .before .before .loop-test .taken), square (start l .pre .1)),
       omega (arith, row, l .loop .inv .3),
       rows-step (a .kind) (a .bitwidth) (a .side) _ (l .loop .i)
-          (c .before .before .fill-row .ensures _ (at-tabulate-zero _) (l .loop .inv .4)),
+          (rows c .fill-row .ensures (a .kind) _ (factors (rows c .before .before)) (at-tabulate-zero _) (l .loop .inv .4)),
     )
 
 same-length : tie.Need-same-length Inv-loop μ-loop
@@ -94,7 +106,9 @@ fill-spec =
     μ-loop
     clear-requires
     slice-write-table
+    factor-step-requires
     loop-holds
+    first-factor-requires
     fill-row-requires
     add-from
     add-i

@@ -1,46 +1,20 @@
--- One case a kind: the contracts of product and difference, or of product and sum, are the recurrence, since a width to 64 is not cut.
+-- A product that is cut to 64 bits and a sum that is cut to the width.
 use borrow.Author.Needs.{needs}
-use native.Mathlib.Nat.{min-eq-left}
+use mathlib.Core.Path.{_∙_, ap}
+use Prim.Native.Nat.{ℕ, _+_, _*_, _%_, _^_, min}
+use Rattle.math_utils.proofs.Entries.{sum-cut}
 use Rattle.math_utils.proofs.stirling.next_entry.Statement.{statement}
 use Rattle.math_utils.proofs.stirling.next_entry.Tie as tie
-
-enum-told : tie.Need-enum-told
-enum-told c = search needs
-
-sub-mod-mul : tie.Need-sub-mod-mul
-sub-mod-mul c = search needs
-
-mod-mul-requires : tie.Need-mod-mul-requires
-mod-mul-requires c κs = search needs
-
-mod-sub-requires : tie.Need-mod-sub-requires
-mod-sub-requires c κs = search needs
-
-enum-told-2 : tie.Need-enum-told-2
-enum-told-2 c = search needs
-
-mod-mul-requires-2 : tie.Need-mod-mul-requires-2
-mod-mul-requires-2 c κs = search needs
-
-mod-add-requires : tie.Need-mod-add-requires
-mod-add-requires c κs = search needs
-
-returns : tie.Need-returns
-returns c = cc (min-eq-left (c .before .before .before .before .pre .1))
-
-returns-2 : tie.Need-returns-2
-returns-2 c = cc (min-eq-left (c .before .before .before .before .pre .1))
 
 pub next-entry-spec : {M : Type 1} → statement M
 next-entry-spec =
     tie.close
     (tie.spec
-    enum-told
-    sub-mod-mul
-    mod-mul-requires
-    mod-sub-requires
-    enum-told-2
-    mod-mul-requires-2
-    mod-add-requires
-    returns
-    returns-2)
+    (λ c κs. search needs)
+    (λ c κs. search needs)
+    (λ c.
+    let s = c .before .before in
+    let a = s .args in
+    c .mod-add .ensures
+    ∙ ap (λ (x : ℕ). (a .left + x) % 2 ^ min (a .bitwidth) 64) (c .before .wrapping-mul .ensures)
+    ∙ sum-cut (a .bitwidth) (a .left) (a .factor * a .above) (s .pre)))
