@@ -116,7 +116,7 @@ pub(crate) fn bounded_whole(coeffs: &[u64], degrees: &[u8], bits: u32) -> bool
     if degrees.len() == 1 {
         return bounded_line(coeffs, bits);
     }
-    if 64 < coeffs.len() {
+    if layout::rows_pay(coeffs.len(), degrees) {
         return bounded_rows(coeffs, degrees, bits);
     }
     let alone = [0xffff_ffff_ffff_ffffu64; 1];

@@ -76,6 +76,20 @@ fn add_variable(masks: &mut [u64], size: usize, d: u8) -> usize
     from
 }
 
+// Whether rows are the quicker way for a box of n cells; either way serves. They pay above 64 cells, but for lines of ten numbers or more only above 256.
+pub(crate) fn rows_pay(n: usize, degrees: &[u8]) -> bool {
+    if n <= 64 {
+        return false;
+    }
+    if 256 < n {
+        return true;
+    }
+    if degrees.len() == 0 {
+        return true;
+    }
+    degrees[0] < 9
+}
+
 // Lays out the masks of a row of the first variables, as many as have 256 cells or fewer together; the numbers behind the cells of a row are as they were.
 // The result is how many variables these are. A table of fewer than 256 numbers is left as it was, and the result is 0.
 pub fn lay_out(masks: &mut [u64], degrees: &[u8]) -> usize

@@ -108,7 +108,7 @@ pub(crate) fn reduce_whole(table: &mut [u64], degrees: &[u8], bits: u32)
         reduce_line(table, bits);
         return;
     }
-    if 64 < table.len() {
+    if layout::rows_pay(table.len(), degrees) {
         reduce_rows(table, degrees, bits);
         return;
     }

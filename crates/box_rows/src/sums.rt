@@ -127,7 +127,7 @@ pub(crate) fn sum_whole(a: &[u64], b: &[u64], out: &mut [u64], degrees: &[u8], b
         sum_line(a, b, out, bits);
         return;
     }
-    if 64 < out.len() {
+    if layout::rows_pay(out.len(), degrees) {
         sum_rows(a, b, out, degrees, bits);
         return;
     }

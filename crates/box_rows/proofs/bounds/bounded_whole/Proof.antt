@@ -11,7 +11,7 @@ abbrev one : tie.Then1 → tie.Start
 one c = c .before .before .before
 
 abbrev few : tie.Else2 → tie.Start
-few c = c .before .before .before .before
+few c = c .before .before .before .before .before
 
 pub bounded-whole-spec : {M : Type 1} → statement M
 bounded-whole-spec =
@@ -19,6 +19,7 @@ bounded-whole-spec =
     (tie.spec
     (λ c κs. search needs)
     (λ c. let s = one (c .before) in c .bounded-line .ensures ∙ bounded-one (s .args .bits) _ (s .args .coeffs .now) (s .pre .0) (c .before .if1 .taken))
+    (λ c κs. search needs)
     (λ c κs. search needs)
     (λ c. search needs)
     (λ c. search needs)

@@ -11,7 +11,7 @@ abbrev one : tie.Then1 → tie.Start
 one c = c .before .before .before
 
 abbrev few : tie.Else2 → tie.Start
-few c = c .before .before .before .before
+few c = c .before .before .before .before .before
 
 pub reduce-whole-spec : {M : Type 1} → statement M
 reduce-whole-spec =
@@ -24,6 +24,7 @@ reduce-whole-spec =
     let h = k .before .before in
     let s = one h in
     k .reduce-line .ensures ∙ kept-line (s .args .bits) _ _ _ (s .pre .0) (h .if1 .taken) ∙ reduced-kept _ _ _)
+    (λ c κs. search needs)
     (λ c κs. search needs)
     (λ c. search needs)
     (λ c. search needs)

@@ -11,7 +11,7 @@ abbrev one : tie.Then1 → tie.Start
 one c = c .before .before .before .before .before
 
 abbrev few : tie.Else2 → tie.Start
-few c = c .before .before .before .before .before .before
+few c = c .before .before .before .before .before .before .before
 
 pub sum-whole-spec : {M : Type 1} → statement M
 sum-whole-spec =
@@ -24,6 +24,7 @@ sum-whole-spec =
     let h = k .before .before in
     let s = one h in
     k .sum-line .ensures ∙ kept-line (s .args .bits) _ _ _ (s .pre .2) (h .if1 .taken) ∙ total-kept _ _ _ _)
+    (λ c κs. search needs)
     (λ c κs. search needs)
     (λ c. search needs)
     (λ c. search needs)
