@@ -94,7 +94,8 @@ number-above k w i zero small h = absurd (not-suc-le-zero h)
 number-above k w zero (suc j) small h = sym (top k w j)
 number-above k w (suc i) (suc j) small h =
     sym (inner k w i j small)
-    ∙ ap₂ (λ (x y : ℕ). (x + factor k (suc i) (suc j) * y) % 2 ^ w) (number-above k w i j small (le-of-suc-le-suc h)) (number-above k w i (suc j) small (omega arith))
+    ∙ ap₂ (λ (x y : ℕ). (x + factor k (suc i) (suc j) * y) % 2 ^ w)
+    (number-above k w i j small (le-of-suc-le-suc h)) (number-above k w i (suc j) small (omega arith))
     ∙ simp (mul-zero, zero-mod)
 
 module _ (k : Kind) (w side : ℕ) (word : w ≤ 64) where
@@ -178,7 +179,8 @@ module _ (k : Kind) (w side : ℕ) (word : w ≤ 64) where
 pub record Columns (w side from i first step : ℕ) (t₀ t : List ℕ) (f left j : ℕ) : Type 0 where
   pub read : left ≡ at t (from + j - 1)
   pub factors : (k : Kind) → Factors k i first step → f ≡ factor k i j
-  pub filled : (k : Kind) (z : List ℕ) → Factors k i first step → Zeros z → Filled (entry k w side) z t₀ (i * side) → Filled (entry k w side) z t (i * side + j)
+  pub filled : (k : Kind) (z : List ℕ) → Factors k i first step → Zeros z → Filled (entry k w side) z t₀ (i * side)
+      → Filled (entry k w side) z t (i * side + j)
 
 module _ (w side from i first step : ℕ) (word : w ≤ 64) (pos : 0 < i) (small : i < side) (place : from + side ≡ i * side) (t₀ : List ℕ) where
   pub columns-start : Columns w side from i first step t₀ t₀ first (at t₀ from) 1
@@ -191,7 +193,8 @@ module _ (w side from i first step : ℕ) (word : w ≤ 64) (pos : 0 < i) (small
 
   module _ (t : List ℕ) (f left j : ℕ) (c : Columns w side from i first step t₀ t f left j) where
     -- one column more
-    pub column-step : (above v g : ℕ) → 0 < j → j ≤ i → from + side + j < length t → above ≡ at t (from + j) → v ≡ (left + f * above) % 2 ^ w → g ≡ (f + step) % 2 ^ 64
+    pub column-step : (above v g : ℕ) → 0 < j → j ≤ i → from + side + j < length t → above ≡ at t (from + j) → v ≡ (left + f * above) % 2 ^ w
+        → g ≡ (f + step) % 2 ^ 64
         → Columns w side from i first step t₀ (set t (from + side + j) v) g above (j + 1)
     column-step above v g low within fits a value next =
         record {

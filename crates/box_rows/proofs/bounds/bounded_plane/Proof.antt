@@ -58,7 +58,8 @@ said c =
     let s = lent l in
     let ds = s .args .degrees .now in
     c .bounded-line .ensures
-    ∙ bounded-one (l .loop .left) (others ds) (part (l .loop .from) (l .loop .from + size l) (s .args .coeffs .now)) (walk-part (l .loop .inv .walk) (u .loop-test .taken) (s .args .coeffs .now) refl)
+    ∙ bounded-one (l .loop .left) (others ds) (part (l .loop .from) (l .loop .from + size l) (s .args .coeffs .now))
+    (walk-part (l .loop .inv .walk) (u .loop-test .taken) (s .args .coeffs .now) refl)
     (length-others ds (omega (arith, s .pre .2)) ∙ omega (arith, s .pre .2))
 
 pub bounded-plane-spec : {M : Type 1} → statement M
