@@ -7,16 +7,16 @@ use native.Mathlib.Omega.{arith}
 use lib.Bits.{bitAnd, and-mask}
 use lib.ListN.{length}
 use Rattle.meaning.specs.Tables.{at, tabulate}
-use Rattle.meaning.specs.Factorials.{factorial, twosIn, twos}
+use Rattle.meaning.specs.Factorials.{factorial, twos}
 use Rattle.meaning.specs.Boxes.{cells, digits}
 use Rattle.meaning.specs.Values.{weight, bound, boxTotal, boxReduced}
 use Rattle.theory.specs.Tables.{Filled, filled-start, filled-done, at-tabulate, length-tabulate, tabulate-cong}
 use Rattle.theory.specs.Words.{low-bits}
-use Rattle.theory.specs.Twos.{twos-factorial}
 use Rattle.theory.specs.LastVariable.{others, final, bound-last}
 use Rattle.theory.specs.Parts.{part, part-entry, put, filled-part}
 use Rattle.box_rows.specs.Walks.{Walk, walk-start, walk-lines, walk-exponent, walk-fits, walk-less, walk-part, walk-next}
 use Rattle.box_rows.specs.Rows.{Laid, row-mask}
+use Rattle.box_rows.specs.Lines.{LineBits, line-full, line-bits}
 
 -- what a mask keeps
 pub masked-number : (x w mask : ℕ) → mask ≡ 2 ^ w - 1 → bitAnd x mask ≡ x % 2 ^ w
@@ -84,27 +84,21 @@ kept-line w (d ∷ (y ∷ ys)) x n e one = absurd (suc-ne-zero (length ys) (suc-
 -- the sub-boxes below the last exponent e are done, and `left` bits are left in the next one
 pub record Boxes (w : ℕ) (ds : List ℕ) (x : ℕ → ℕ) (t₀ t : List ℕ) (size left e from : ℕ) : Type 0 where
   pub walk : Walk ds (length t₀) size e from
-  pub bits : left ≡ w - twos (factorial e)
+  pub bits : LineBits w e left
   pub filled : Filled (λ i. x i % bound w (digits ds i)) t₀ t from
-
--- one exponent more
-pub left-next : (w left e more : ℕ) → left ≡ w - twos (factorial e) → more ≡ left - twos (e + 1) → more ≡ w - twos (factorial (e + 1))
-left-next w left e more h m = omega (arith, h, m, twos-factorial e)
 
 module _ (w : ℕ) (ds : List ℕ) (x : ℕ → ℕ) (t₀ : List ℕ) where
   -- two variables, whose sub-boxes are lines
   pub boxes-lines : length ds ≡ 2 → length t₀ ≡ cells ds → (size : ℕ) → size ≡ at ds 0 + 1 → Boxes w ds x t₀ t₀ size w 0 0
-  unfolding factorial twos twosIn
   boxes-lines h e size s =
       record {
         walk = walk-lines ds (length t₀) h e size s;
-        bits = omega arith;
+        bits = line-full w;
         filled = filled-start _ t₀;
       }
 
   pub boxes-start : 0 < length ds → length t₀ ≡ cells ds → Boxes w ds x t₀ t₀ (length t₀ / (final ds + 1)) w 0 0
-  unfolding factorial twos twosIn
-  boxes-start h e = record { walk = walk-start ds (length t₀) h e; bits = omega arith; filled = filled-start _ t₀ }
+  boxes-start h e = record { walk = walk-start ds (length t₀) h e; bits = line-full w; filled = filled-start _ t₀ }
 
   module _ (t : List ℕ) (size left e from : ℕ) (r : Boxes w ds x t₀ t size left e from) where
     module _ (h : from < length t) where
@@ -133,7 +127,7 @@ module _ (w : ℕ) (ds : List ℕ) (x : ℕ → ℕ) (t₀ : List ℕ) where
           let long : length ys ≡ size = ap length q ∙ length-tabulate (cells (others ds)) _ ∙ sym (k .sized) in
           record {
             walk = walk-next k inside;
-            bits = left-next w left e more (r .bits) m;
+            bits = line-bits w e left more (r .bits) m;
             filled =
                 filled-part _ t₀ t from (from + size) ys (r .filled) (omega arith) boxes-fit (long ∙ sym s)
                 (λ i b.

@@ -13,7 +13,7 @@ use lib.Dec.{eqb, ltb}
 use lib.Pow.{pow-pos}
 use lib.ListN.{length}
 use Rattle.meaning.specs.Tables.{at}
-use Rattle.meaning.specs.Factorials.{factorial, twosIn, twos}
+use Rattle.meaning.specs.Factorials.{factorial, twos}
 use Rattle.meaning.specs.Boxes.{cells, digits}
 use Rattle.meaning.specs.Values.{weight, bound}
 use Rattle.meaning.specs.Recovery.{every}
@@ -22,8 +22,9 @@ use Rattle.theory.specs.LastVariable.{others, final, bound-last}
 use Rattle.theory.specs.Parts.{part, part-entry}
 use Rattle.box_rows.specs.Walks.{Walk, walk-start, walk-lines, walk-exponent, walk-fits, walk-next}
 use Rattle.box_rows.specs.Rows.{Laid, row-mask}
+use Rattle.box_rows.specs.Lines.{LineBits, line-full, line-bits}
 use Rattle.box_rows.specs.Bounds.{isBelow}
-use Rattle.box_rows.proofs.Kept.{masked-number, line-bound, left-next}
+use Rattle.box_rows.proofs.Kept.{masked-number, line-bound}
 
 -- the first i numbers pass the test exactly if nothing is over
 abbrev pub Over : (ℕ → Bool) → ℕ → ℕ → Type 0
@@ -136,17 +137,16 @@ every-next p n from k h =
 -- the sub-boxes below the last exponent e pass, so that the tests from there on decide, and `left` bits are left in the next one
 pub record Passed (w : ℕ) (ds c : List ℕ) (size left e from : ℕ) : Type 0 where
   pub walk : Walk ds (length c) size e from
-  pub bits : left ≡ w - twos (factorial e)
+  pub bits : LineBits w e left
   pub rest : every (cells ds) (isBelow w ds c) ≡ every (length c - from) (λ i. isBelow w ds c (from + i))
 
 module _ (w : ℕ) (ds c : List ℕ) where
   -- nothing is looked at yet
   passed-none : (size : ℕ) → Walk ds (length c) size 0 0 → length c ≡ cells ds → Passed w ds c size w 0 0
-  unfolding factorial twos twosIn
   passed-none size walk e =
       record {
         walk = walk;
-        bits = omega arith;
+        bits = line-full w;
         rest =
             ap (λ (k : ℕ). every k (isBelow w ds c)) (sym e ∙ sym (sub-zero (length c)))
             ∙ every-cong (length c - 0) (λ i r. ap (isBelow w ds c) (sym (zero-add i)));
@@ -194,7 +194,7 @@ module _ (w : ℕ) (ds c : List ℕ) where
         passed-next more q m =
             record {
               walk = walk-next (r .walk) h;
-              bits = left-next w left e more (r .bits) m;
+              bits = line-bits w e left more (r .bits) m;
               rest = turn ∙ ap (_&& every (length c - (from + size)) (λ i. isBelow w ds c (from + size + i))) q;
             }
 

@@ -21,11 +21,11 @@ line-full w = omega arith
 pub line-start : (w mask : ℕ) → w ≤ 64 → mask ≡ 2 ^ min w 64 - 1 → LineMask w 0 mask
 line-start w mask h e = e ∙ ap (λ (k : ℕ). 2 ^ k - 1) (min-eq-left h ∙ line-full w)
 
-pub line-bits : (w i bits t : ℕ) → LineBits w i bits → t ≡ twos (i + 1) → LineBits w (i + 1) (bits - t)
-line-bits w i bits t e s = omega (arith, s, twos-factorial i)
+pub line-bits : (w i bits more : ℕ) → LineBits w i bits → more ≡ bits - twos (i + 1) → LineBits w (i + 1) more
+line-bits w i bits more e m = omega (arith, m, twos-factorial i)
 
 pub line-next : (w i mask t : ℕ) → LineMask w i mask → t ≡ twos (i + 1) → LineMask w (i + 1) (mask / 2 ^ t)
 line-next w i mask t e s =
     ap (_/ 2 ^ t) e
     ∙ mask-less (w - twos (factorial i)) t
-    ∙ ap (λ (k : ℕ). 2 ^ k - 1) (line-bits w i (w - twos (factorial i)) t refl s)
+    ∙ ap (λ (k : ℕ). 2 ^ k - 1) (line-bits w i _ _ refl (ap (w - twos (factorial i) -_) s))

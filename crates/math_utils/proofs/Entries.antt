@@ -51,7 +51,7 @@ top Kind.First w j = sym (zero-mod (2 ^ w))
 top Kind.Second w j = sym (zero-mod (2 ^ w))
 
 -- 1 - i, which wraps, and i - 1 are nothing together
-pub wraps : (w i : ℕ) → w ≤ 64 → Cong (2 ^ w) (minus (2 ^ 64) 1 (suc i) + i) 0
+wraps : (w i : ℕ) → w ≤ 64 → Cong (2 ^ w) (minus (2 ^ 64) 1 (suc i) + i) 0
 wraps w i small =
     let whole = minus-add 1 (suc i) (pow-pos 64) in
     cong-of-pow small (cong-add-cancel 1 (cong-trans (cong-of-eq (2 ^ 64) (omega arith)) whole))

@@ -10,13 +10,13 @@ use native.Mathlib.Omega.{arith}
 use lib.ListN.{length, take}
 use lib.Seq.{take-suc, take-length, length-take-le}
 use Rattle.meaning.specs.Tables.{at}
-use Rattle.meaning.specs.Factorials.{factorial, twosIn, twos}
+use Rattle.meaning.specs.Factorials.{factorial, twos}
 use Rattle.meaning.specs.Inverses.{inverse}
 use Rattle.meaning.specs.Boxes.{cells, digits}
 use Rattle.meaning.specs.Values.{weight, oddFactor}
 use Rattle.meaning.specs.Recovery.{divides, coefficient}
 use Rattle.theory.specs.Parts.{part, put, at-part, length-part, length-put}
-use Rattle.theory.specs.Twos.{twos-factorial}
+use Rattle.box_rows.specs.Lines.{LineBits, line-full, line-bits}
 use Rattle.multivar_poly_recovery.proofs.CellFactors.{cells-last, digits-last, inverse-more}
 use Rattle.multivar_poly_recovery.specs.Tested.{Tested, Testing, tested-cong, testing-start, testing-part, testing-done, tested-part-fails}
 use Rattle.multivar_poly_recovery.specs.Extracted.{test, number, Extracted, Inverses}
@@ -61,11 +61,6 @@ next-inverse : (inverses : List ℕ) → Inverses inverses → (v e : ℕ) (hs :
 next-inverse inverses table v e hs h k =
     ap₂ (λ (a b : ℕ). (a * b) % 2 ^ 64) k (table e h) ∙ inverse-more e hs
 
--- exponent 0 leaves all bits
-none-over : (left : ℕ) → left ≡ left - twos (factorial 0)
-unfolding factorial twos twosIn
-none-over left = omega arith
-
 -- one exponent more
 one-over : (w left bits e : ℕ) (hs : List ℕ) → left ≡ w - weight hs → bits ≡ left - twos (factorial e) → bits ≡ w - weight (e ∷ hs)
 unfolding weight
@@ -86,7 +81,7 @@ pub record SubBoxes (left v w : ℕ) (rest : List ℕ) (d : ℕ) (t₀ t : List 
   pub same : length t ≡ length t₀
   pub few : e ≤ suc d
   pub place : from ≡ e * cells rest
-  pub over : bits ≡ left - twos (factorial e)
+  pub over : LineBits left e bits
   pub testing : (hs : List ℕ) → left ≡ w - weight hs → v ≡ inverse (oddFactor hs) 64
       → Testing (test w (rest ++ (d ∷ [])) hs t₀) (number w (rest ++ (d ∷ [])) hs t₀) t₀ t from
 
@@ -97,7 +92,7 @@ module _ (left v w : ℕ) (rest : List ℕ) (d : ℕ) (t₀ : List ℕ) where
         same = refl;
         few = zero-le;
         place = omega arith;
-        over = none-over left;
+        over = line-full left;
         testing = λ hs a b. testing-start _ _ t₀;
       }
 
@@ -149,7 +144,7 @@ module _ (left v w : ℕ) (rest : List ℕ) (d : ℕ) (t₀ : List ℕ) where
             same = length-put from (from + size) t subBox-fits (omega arith) ys (long ∙ subBox-length ∙ sym span) ∙ r .same;
             few = omega arith;
             place = omega (arith, r .place, sized);
-            over = omega (arith, r .over, g, twos-factorial e);
+            over = line-bits left e bits n (r .over) g;
             testing =
                 λ hs a b.
                 testing-part _ _ t₀ t from (from + size) ys (r .testing hs a b) (omega arith) subBox-fits (long ∙ subBox-length ∙ sym span)

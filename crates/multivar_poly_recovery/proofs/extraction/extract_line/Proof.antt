@@ -49,7 +49,7 @@ again c =
       row-step _ _ _ (l .part) (l .i) _ _ (l .inv .0) (t .loop-test .taken) (lent (t .before) .pre .2) (right (unit k)) _ (k .extract-cell .ensures) _
           (m .before .before .c .given .1),
       m .next-mask .ensures ∙ line-next _ (l .i) (l .ones) _ (l .inv .1) refl,
-      c .bits-left .ensures ∙ line-bits _ (l .i) (l .bits) _ (l .inv .2) refl,
+      line-bits _ (l .i) (l .bits) _ (l .inv .2) (c .bits-left .ensures),
     )
 
 pub extract-line-spec : {M : Type 1} → statement M
