@@ -12,8 +12,8 @@
  *          Its length is k, 1 to 20. Here it is a table as any other: its count is its length.
  * total    how many variables there are in all, at most 20
  * width    2 to 64. All counts modulo 2^width; the bits above the width of a value, weight, target,
- *          coordinate or coefficient do not count. cobra_box_is_valid and cobra_box_same alone read
- *          coefficients whole.
+ *          coordinate or coefficient do not count. cobra_box_is_valid alone reads coefficients
+ *          whole.
  * degree   the highest exponent of each variable, and the highest coordinate of the grid. The box
  *          has cells = (degree+1)^k cells, at most 65,536. cobra_recovery_room and cobra_fit_room
  *          tell beforehand how long the tables have to be.
@@ -283,14 +283,21 @@ uint32_t cobra_reduce(uint64_t *coeffs, size_t coeffs_len,
                       uint32_t total, uint32_t width, uint8_t degree);
 
 /*
- * Whether two boxes with their settings are the same.
+ * Whether two polynomials are the same: one formula recovered at degree 3 and at degree 5, or with
+ * its variables in another order, is one formula.
  *
  * a, b     the coefficients of the first and the second: as many as its box has cells
- * value    gets 1 where total, width, support in order, degree and all coefficients, read whole,
- *          are equal, else 0; with every refusal 0
+ * value    gets 1 where the totals are equal, the widths are equal, and both polynomials have the
+ *          same value modulo 2^width at every whole-number point, negative ones too; else 0; with
+ *          every refusal 0
  *
- * Numbers: 1, 2, 3, 5, 7, 8, 9 of the first box, then those of the second. Of normal forms a 0 says
- * that they differ as functions where the settings are equal; of other boxes it does not.
+ * A point has a coordinate for each of the total variables; a variable that is not in a support
+ * has exponent 0 in that polynomial. Supports, their order and the degrees may differ, and the
+ * boxes need not be normal forms. Of two normal forms with equal settings a 1 says that all their
+ * coefficients are equal.
+ *
+ * Numbers: 1, 2, 3, 5, 7, 8, 9 of the first, then those of the second; only then are unequal totals
+ * or widths a no. The time grows with the cells of both boxes.
  */
 uint32_t cobra_box_same(const uint64_t *a, size_t a_len,
                         const uint64_t *asupport, size_t asupport_len,

@@ -3,9 +3,8 @@
 //! it is evaluated modulo 2^64, which every 2^width divides. A whole number below zero stands in a case,
 //! and crosses to the library, modulo 2^64 or modulo 2^width.
 
-use crate::boxes::{filled, low_bits, shape, width};
+use crate::boxes::{self, digits, filled, low_bits, shape, width};
 use crate::bytes::{self, LIMIT};
-use crate::definitions::digits;
 use crate::demand3::{in_box, random_case, recovered, value_of, with, NUMBERS};
 use crate::group::{Answer, Case, Group, Source};
 use crate::library::cobra_degree_cap;
@@ -164,8 +163,7 @@ fn larger<'a>(c: &Case, s: &Settings<'a>) -> (Settings<'a>, Vec<u64>) {
 
 /// The number that a cell of the grid has in a larger one.
 fn place(cell: usize, s: &Settings, t: &Settings) -> usize {
-    let base = usize::from(t.degree) + 1;
-    point_of(cell, s).iter().rev().fold(0, |number, &x| number * base + x as usize)
+    boxes::place(cell, s, t).expect("a place in the larger grid")
 }
 
 /// The values of the smaller grid: the larger one's, with other bits above the width.

@@ -1,5 +1,5 @@
-//! is_valid, sameness, value, sum and reduction. The Rust has is_valid, and an equality of forms that knows neither
-//! support nor degree; the others are document 01's definitions, computed here cell by cell.
+//! is_valid, value, sum and reduction. The Rust has is_valid; the others are document 01's definitions, computed here cell by
+//! cell.
 
 use crate::boxes::{
     coefficients, every_set_of_causes, filled, large_box, left, length, lengths, lent, low_bits,
@@ -14,28 +14,27 @@ use crate::reference as rust;
 use crate::settings::Settings;
 
 /// Each group with whether the library has its call.
-pub const GROUPS: [(&Group, bool); 5] = [
+pub const GROUPS: [(&Group, bool); 4] = [
     (&IS_VALID, cfg!(cobra_box_is_valid)),
-    (&SAME, cfg!(cobra_box_same)),
     (&VALUE, cfg!(all(cobra_box_value, cobra_value))),
     (&SUM, cfg!(cobra_box_sum)),
     (&REDUCE, cfg!(cobra_reduce)),
 ];
 
 /// Without degree 0, which recovery alone refuses.
-const PLAIN: [u32; 7] = [1, 2, 3, 5, 7, 8, 9];
+pub const PLAIN: [u32; 7] = [1, 2, 3, 5, 7, 8, 9];
 /// is_valid says no to a bad width and goes on.
 const WIDTHLESS: [u32; 6] = [1, 2, 5, 7, 8, 9];
 
 /// A case that all calls of one box accept, with causes' room: three variables in mixed order.
-fn accepted(width: u64, tables: usize) -> Case {
+pub fn accepted(width: u64, tables: usize) -> Case {
     let mut c = Case::of([5, width, 2, 0, 0]).with(vec![3, 0, 2]);
     (0..tables).for_each(|i| c.tables.push((i as u64..27).collect()));
     c
 }
 
 /// Boxes above the limit with tables of just their length.
-fn above_the_limit(tables: usize, give: &mut dyn FnMut(Case)) {
+pub fn above_the_limit(tables: usize, give: &mut dyn FnMut(Case)) {
     for (k, degree, cells) in [(3, 40, 68_921), (17, 1, 131_072), (2, 255, 65_536)] {
         let mut c = Case::of([20, 8, degree, 0, 0]).with((0..k).collect());
         (0..tables).for_each(|_| c.tables.push(vec![1; cells]));
@@ -44,7 +43,7 @@ fn above_the_limit(tables: usize, give: &mut dyn FnMut(Case)) {
 }
 
 /// Small boxes, and large ones now and then.
-fn any_box(r: &mut Random) -> Case {
+pub fn any_box(r: &mut Random) -> Case {
     if r.one_in(400) {
         large_box(r)
     } else {
@@ -126,7 +125,8 @@ const IS_VALID: Group = Group {
     },
 };
 
-fn one_table(c: &Case) -> Vec<u64> {
+/// The table of a call on one box.
+pub fn one_table(c: &Case) -> Vec<u64> {
     let [cells] = lengths(c);
     lent(&c.tables[1], cells)
 }
@@ -321,7 +321,7 @@ const REDUCE: Group = Group {
     }),
     cost: 1,
     judged: |c| {
-        let (s, coeffs) = (settings(c), reduce_table(c));
+        let (s, coeffs) = (settings(c), one_table(c));
         let (mut coeffs, mut support) = (Lent::new(&coeffs), Lent::new(s.support));
         let (n, k, from, at) = (coeffs.len(), support.len(), coeffs.at(), support.at());
         let answer = unsafe { ours::cobra_reduce(from, n, at, k, s.total, s.width, s.degree) };
@@ -330,7 +330,7 @@ const REDUCE: Group = Group {
         said.words("support", support.content()).outside(outside)
     },
     expected: |c| {
-        let (s, mut coeffs, number) = (settings(c), reduce_table(c), form_number(c));
+        let (s, mut coeffs, number) = (settings(c), one_table(c), form_number(c));
         if number == 0 {
             let twos = twos_of_cells(s.degree, s.support.len());
             let kept = |q: u32| low_bits(u64::from(s.width.saturating_sub(q)));
@@ -341,159 +341,7 @@ const REDUCE: Group = Group {
     },
 };
 
-fn reduce_table(c: &Case) -> Vec<u64> {
-    let [n] = lengths(c);
-    lent(&c.tables[1], n)
-}
-
-const SAME: Group = Group {
-    name: "box_same",
-    names: &[
-        "a_total",
-        "a_width",
-        "a_degree",
-        "a_wrong_length",
-        "b_total",
-        "b_width",
-        "b_degree",
-        "b_wrong_length",
-        "a_support",
-        "a",
-        "b_support",
-        "b",
-    ],
-    small: |give| {
-        let base = accepted(8, 1);
-        let mut spoilt = Vec::new();
-        every_set_of_causes(&base, &PLAIN, form_number, &mut |c| spoilt.push(c));
-        let pairs = |c: &Case| c.u64(3) < 2 && c.tables[0].len() < 4;
-        for c in &spoilt {
-            give(two_forms(c, &base));
-            give(two_forms(&base, c));
-        }
-        // a cause in each form: the first form's wins
-        for a in PLAIN.iter().enumerate().map(|(i, _)| &spoilt[1 << i]) {
-            spoilt.iter().filter(|b| pairs(b)).for_each(|b| give(two_forms(a, b)));
-        }
-        above_the_limit(1, &mut |c| give(two_forms(&c, &c)));
-        // the same cells under other settings
-        let forms = [
-            (4, 8, 3, vec![0]),
-            (4, 8, 3, vec![1]),
-            (3, 8, 3, vec![0]),
-            (4, 9, 3, vec![0]),
-            (4, 8, 1, vec![0, 1]),
-            (4, 8, 1, vec![1, 0]),
-            (4, 8, 0, vec![0]),
-            (4, 8, 0, vec![0, 1, 2]),
-            (4, 8, 2, vec![0]),
-        ];
-        for a in &forms {
-            for b in &forms {
-                let form = |(total, width, degree, support): &(u64, u64, u64, Vec<u64>)| {
-                    let c = Case::of([*total, *width, *degree, 0, 0]);
-                    c.with(support.clone()).with(vec![])
-                };
-                give(two_forms(&form(a), &form(b)));
-            }
-        }
-    },
-    random: Some(|r| {
-        let mut a = any_box(r);
-        a.tables.push(coefficients(&a, r));
-        let mut b = a.clone();
-        for _ in 0..r.below(3) {
-            change(&mut b, r);
-        }
-        match r.below(12) {
-            0 => spoil(&mut a, &PLAIN, r),
-            1 => spoil(&mut b, &PLAIN, r),
-            2 => {
-                spoil(&mut a, &PLAIN, r);
-                spoil(&mut b, &PLAIN, r);
-            }
-            _ => {}
-        }
-        two_forms(&a, &b)
-    }),
-    cost: 1,
-    judged: |c| {
-        let (a, b) = (form(c, 0), form(c, 1));
-        let (s, t) = (settings(&a), settings(&b));
-        let (mut cells, mut others) = (Lent::new(&one_table(&a)), Lent::new(&one_table(&b)));
-        let (mut support, mut other) = (Lent::new(s.support), Lent::new(t.support));
-        let (an, bn, ak, bk) = (cells.len(), others.len(), support.len(), other.len());
-        let (a_at, b_at, as_at, bs_at) = (cells.at(), others.at(), support.at(), other.at());
-        let mut value = UNSET;
-        let answer = unsafe {
-            ours::cobra_box_same(
-                a_at, an, as_at, ak, s.total, s.width, s.degree, b_at, bn, bs_at, bk, t.total,
-                t.width, t.degree, &mut value,
-            )
-        };
-        let outside = cells.outside() + others.outside() + support.outside() + other.outside();
-        let (first, second) = (cells.content(), others.content());
-        same_left(answer, value, first, support.content(), second, other.content()).outside(outside)
-    },
-    expected: |c| {
-        let (a, b) = (form(c, 0), form(c, 1));
-        let (first, second) = (form_number(&a), form_number(&b));
-        let number = if first == 0 { second } else { first };
-        let (cells, others) = (one_table(&a), one_table(&b));
-        // the Rust's equality has neither: docs/DIFFERENCES.md, "sameness, another degree or support"
-        let asked = number == 0 && a.numbers[2] == b.numbers[2] && a.tables[0] == b.tables[0];
-        let form = |c: &Case, cells: &[u64]| rust::form(cells, &settings(c));
-        let value = u64::from(asked && form(&a, &cells) == form(&b, &others));
-        let (support, other) = (a.tables[0].clone(), b.tables[0].clone());
-        let said = same_left(number, value, cells, support, others, other);
-        (if asked { Source::Rust } else { Source::Document }, said.outside(0))
-    },
-};
-
-fn same_left(
-    answer: u32,
-    value: u64,
-    a: Vec<u64>,
-    a_support: Vec<u64>,
-    b: Vec<u64>,
-    b_support: Vec<u64>,
-) -> Answer {
-    let first =
-        Answer::number(answer).and_value(value).words("a", a).words("a's support", a_support);
-    first.words("b", b).words("b's support", b_support)
-}
-
-/// The case of sameness from the cases of two forms, and each of them back.
-fn two_forms(a: &Case, b: &Case) -> Case {
-    Case {
-        numbers: [&a.numbers[..4], &b.numbers[..4]].concat(),
-        tables: [&a.tables[..2], &b.tables[..2]].concat(),
-    }
-}
-
-fn form(c: &Case, which: usize) -> Case {
-    let numbers = [&c.numbers[4 * which..4 * which + 4], &[0]].concat();
-    Case { numbers, tables: c.tables[2 * which..2 * which + 2].to_vec() }
-}
-
-fn form_number(c: &Case) -> u32 {
+/// The refusal of a call whose one table is the box.
+pub fn form_number(c: &Case) -> u32 {
     settings(c).refusal(false, &lengths::<1>(c)).unwrap_or(0)
-}
-
-/// Changes one thing that sameness looks at, mostly so that the settings still pass.
-fn change(c: &mut Case, r: &mut Random) {
-    match r.below(6) {
-        0 => c.numbers[0] = (c.u64(0) + 1).min(20),
-        1 => c.numbers[1] = r.between(2, 64),
-        2 => c.numbers[2] = c.u64(2).saturating_sub(1),
-        3 => {
-            let k = c.tables[0].len() as u64;
-            let (i, j) = (r.below(k) as usize, r.below(k) as usize);
-            c.tables[0].swap(i, j);
-        }
-        _ => {
-            let cell = r.below(c.tables[1].len() as u64) as usize;
-            c.tables[1][cell] ^= 1 << r.below(64);
-        }
-    }
 }

@@ -256,6 +256,38 @@ pub fn spoil(c: &mut Case, causes: &[u32], r: &mut Random) {
     }
 }
 
+/// The exponent list, or the grid point, of a cell.
+pub fn digits(mut cell: u64, base: u64, k: usize) -> Vec<u64> {
+    let mut next = || {
+        let digit = cell % base;
+        cell /= base;
+        digit
+    };
+    (0..k).map(|_| next()).collect()
+}
+
+/// The number that a cell has in another box, where its exponents have a place there.
+pub fn place(cell: usize, s: &Settings, t: &Settings) -> Option<usize> {
+    let exponents = digits(cell as u64, u64::from(s.degree) + 1, s.support.len());
+    let (degree, mut found) = (u64::from(t.degree), 0);
+    for (&var, e) in s.support.iter().zip(exponents).filter(|&(_, e)| e > 0) {
+        let i = t.support.iter().position(|&other| other == var).filter(|_| e <= degree)?;
+        found += e * (degree + 1).pow(i as u32);
+    }
+    Some(found as usize)
+}
+
+/// The coefficients of a box in another one: each where its exponents have their place, and what has none left out.
+pub fn moved(cells: &[u64], s: &Settings, t: &Settings) -> Vec<u64> {
+    let mut there = vec![0; t.cells().expect("a box within the limit") as usize];
+    for (cell, &coefficient) in cells.iter().enumerate() {
+        if let Some(place) = place(cell, s, t) {
+            there[place] = coefficient;
+        }
+    }
+    there
+}
+
 /// The twos in the factorials of a cell's exponents.
 pub fn twos_of_cells(degree: u8, k: usize) -> Vec<u32> {
     let twos = |e: u64| (1..=e).map(|i| i.trailing_zeros()).sum::<u32>();

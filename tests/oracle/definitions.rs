@@ -2,28 +2,20 @@
 //! several variables, values with bits above the width. This catches a stand-in that reads a table
 //! in another order, which the checked rows of one variable cannot.
 
+use crate::boxes::{digits, low_bits, twos_of_cells};
 use crate::core::arith::bitmask;
 use crate::group::{Answer, Case, Group, Source};
 use crate::ir::math_utils::degree_cap;
 use crate::random::Random;
 use crate::reference as rust;
 use crate::settings::{columns, power, within, Settings};
+use std::collections::HashMap;
 
 pub const GROUPS: [&Group; 5] = [&RECOVERY, &CONVERSIONS, &FIT, &SINGLETONS, &SOLVERS];
 
 /// The twos in the factorials of an exponent list, by counting them.
 fn twos(exponents: &[u64]) -> u32 {
     exponents.iter().map(|&e| (1..=e).map(|i| i.trailing_zeros()).sum::<u32>()).sum()
-}
-
-/// The exponent list, or the grid point, of a cell.
-pub fn digits(mut cell: u64, base: u64, k: usize) -> Vec<u64> {
-    let mut next = || {
-        let digit = cell % base;
-        cell /= base;
-        digit
-    };
-    (0..k).map(|_| next()).collect()
 }
 
 pub fn falling(x: u64, e: u64) -> u64 {
@@ -43,6 +35,40 @@ pub fn value(cells: &[u64], s: &Settings, point: &[u64], basis: fn(u64, u64) -> 
         sum = sum.wrapping_add(factors.fold(coefficient, u64::wrapping_mul));
     }
     sum & bitmask(s.width)
+}
+
+/// Sameness of two forms whose settings pass, coefficient by coefficient: for each exponent list over all variables that one of
+/// the two boxes has, both coefficients are equal modulo 2^(width - q).
+pub fn same(a: &[u64], s: &Settings, b: &[u64], t: &Settings) -> bool {
+    matched(a, s, b, t, below_the_bound) && matched(b, t, a, s, below_the_bound)
+}
+
+/// The bits that count at a cell, from the width and its q.
+pub fn below_the_bound(width: u32, q: u32) -> u64 {
+    low_bits(u64::from(width.saturating_sub(q)))
+}
+
+/// Whether totals and widths are equal and each coefficient of a box is, in the bits that count, the one that the other box has
+/// at its exponents, or 0 where it has none.
+pub fn matched(a: &[u64], s: &Settings, b: &[u64], t: &Settings, count: fn(u32, u32) -> u64) -> bool {
+    let others: HashMap<_, _> = exponent_lists(t).zip(b).collect();
+    let mut lists = exponent_lists(s).zip(twos_of_cells(s.degree, s.support.len())).zip(a);
+    (s.total, s.width) == (t.total, t.width)
+        && lists.all(|((list, q), x)| {
+            let other = others.get(&list).map_or(0, |&&y| y);
+            (x ^ other) & count(s.width, q) == 0
+        })
+}
+
+/// Of each cell the exponents of all variables that there can be.
+fn exponent_lists<'a>(s: &'a Settings) -> impl Iterator<Item = [u8; 20]> + 'a {
+    let (cells, base) = (s.cells().expect("a box within the limit"), u64::from(s.degree) + 1);
+    (0..cells).map(move |cell| {
+        let mut list = [0; 20];
+        let exponents = digits(cell, base, s.support.len());
+        s.support.iter().zip(exponents).for_each(|(&var, e)| list[var as usize] = e as u8);
+        list
+    })
 }
 
 /// A random normal form whose exponents have a sum of at most `most`.

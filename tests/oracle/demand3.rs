@@ -2,17 +2,20 @@
 //! evaluated at whole-number points, negative ones too, in 128-bit arithmetic; a whole number below
 //! zero stands in a case, and crosses to the library, modulo 2^64.
 
-use crate::boxes::{low_bits, shape, support, twos_of_cells, width};
-use crate::definitions::digits;
+use crate::boxes::{digits, low_bits, moved, settings, shape, support, twos_of_cells, width};
+use crate::definitions::{self, falling};
 use crate::group::{Answer, Case, Group, Source};
 use crate::ir::math_utils::degree_cap;
 use crate::library_boxes::{conversions, poly, recovery, InOut};
 use crate::random::Random;
 use crate::reference as rust;
+use crate::sameness::{
+    self, change_a_coefficient, clear_outside, in_other_box, other_box, spoil_above_the_bounds,
+};
 use crate::settings::{power, Settings};
 
 /// Each group with whether the library has its calls.
-pub const GROUPS: [(&Group, bool); 5] = [
+pub const GROUPS: [(&Group, bool); 8] = [
     (&VALUES, cfg!(all(cobra_recover_multivar_poly, cobra_box_value))),
     (
         &NORMAL_FORM,
@@ -21,6 +24,9 @@ pub const GROUPS: [(&Group, bool); 5] = [
     (&OTHER_FORM, cfg!(all(cobra_recover_multivar_poly, cobra_box_value))),
     (&DAMAGE, cfg!(cobra_recover_multivar_poly)),
     (&SUMS, cfg!(all(cobra_recover_multivar_poly, cobra_box_sum))),
+    (&SAME_RECOVERIES, cfg!(all(cobra_recover_multivar_poly, cobra_box_same))),
+    (&SAME_REDUCED, cfg!(all(cobra_reduce, cobra_box_same))),
+    (&SAME_OF_THREE, cfg!(cobra_box_same)),
 ];
 
 /// The numbers of a case; the seed decides the support. A number below its range stands for the least
@@ -211,12 +217,8 @@ const OTHER_FORM: Group = Group {
                 !(0..cells.len()).any(differs)
             };
             let mut other = cells.clone();
-            let mut cell = c.u64(4) as usize % cells.len();
-            let twos = twos_of_cells(s.degree, s.support.len());
-            if twos[cell] >= s.width {
-                cell = 0; // zero is the only coefficient there
-            }
-            let kept = low_bits(u64::from(s.width - twos[cell]));
+            let (cell, bits) = counting_cell(c.u64(4), s);
+            let kept = low_bits(bits);
             let by = if c.u64(5) & kept == 0 { 1 } else { c.u64(5) };
             other[cell] = other[cell].wrapping_add(by) & kept;
             let agreeing = vec![u64::from(agrees(&cells)), u64::from(agrees(&other))];
@@ -228,6 +230,16 @@ const OTHER_FORM: Group = Group {
         (Source::Document, said.words("whether the answer and the other agree", vec![1, 0]))
     },
 };
+
+/// A cell and the number of its bits that count; cell 0 where none does.
+fn counting_cell(number: u64, s: &Settings) -> (usize, u64) {
+    let twos = twos_of_cells(s.degree, s.support.len());
+    let cell = number as usize % twos.len();
+    match s.width.saturating_sub(twos[cell]) {
+        0 => (0, u64::from(s.width)),
+        bits => (cell, u64::from(bits)),
+    }
+}
 
 /// A grid of degree around `degree_cap` with one damaged cell: refused, or the answer is another.
 const DAMAGE: Group = Group {
@@ -311,4 +323,139 @@ const SUMS: Group = Group {
 fn sum_of_grids(a: &[u64], b: &[u64], s: &Settings) -> Vec<u64> {
     let low = low_bits(u64::from(s.width));
     a.iter().zip(b).map(|(&x, &y)| x.wrapping_add(y) & low).collect()
+}
+
+/// Two recoveries of one polynomial, on grids of other degrees and with the support in another order, are the same; those of
+/// two polynomials are, where the two have one normal form.
+const SAME_RECOVERIES: Group = Group {
+    name: "demand 3, sameness of recoveries",
+    names: &[NUMBERS[0], NUMBERS[1], NUMBERS[2], NUMBERS[3], "more", "cell", "by", "coefficients"],
+    small: |_| {},
+    random: Some(|r| {
+        let mut c = random_case(27, r);
+        let coefficients = polynomial(&c, r);
+        let by = if r.one_in(2) { 1 << r.below(64) } else { r.word() };
+        c.numbers.extend([r.pick(&[0, 1, 2, 2]), r.below(1 << 20), by]);
+        c.with(coefficients)
+    }),
+    cost: 2,
+    judged: |c| {
+        with_two_grids(c, |s, t, values| {
+            let (first, a) = recovered(&values[0], s);
+            let [(second, b), (third, other)] = [&values[1], &values[2]].map(|values| recovered(values, t));
+            let both_ways = |b: &[u64]| vec![sameness::said(&a, s, b, t), sameness::said(b, t, &a, s)];
+            let said = Answer::number(first.max(second).max(third));
+            let said = said.words("of one polynomial, both ways", both_ways(&b));
+            said.words("of two polynomials, both ways", both_ways(&other))
+        })
+    },
+    expected: |c| {
+        with_two_grids(c, |s, t, values| {
+            let form = |values: &[u64], s: &Settings| rust::form(&rust::recovery(values, s).expect("a polynomial"), s);
+            let (one, other) = (form(&values[0], s), form(&values[2], t));
+            assert!(form(&values[1], t) == one, "the Rust's two recoveries of one polynomial are not equal");
+            let said = Answer::number(0).words("of one polynomial, both ways", vec![1; 2]);
+            (Source::Rust, said.words("of two polynomials, both ways", vec![u64::from(one == other); 2]))
+        })
+    },
+};
+
+/// The settings of a case; others with a higher degree and the support in another order, which the seed decides; and three
+/// grids: the polynomial's under both, and under the second that of another one, to which `by` times the falling factorials of
+/// one cell of the larger box is added.
+fn with_two_grids<T>(c: &Case, then: impl FnOnce(&Settings, &Settings, [Vec<u64>; 3]) -> T) -> T {
+    with(c, |s| {
+        let (mut turned, mut r) = (s.support.to_vec(), Random::new(c.u64(3), "another order"));
+        sameness::shuffle(&mut turned, &mut r);
+        let t = Settings { support: &turned, degree: s.degree + c.u8(4), ..*s };
+        let coefficients = in_box(&c.tables[0], s);
+        let larger = grid(&moved(&coefficients, s, &t), &t);
+        let digits = |cell: u64| digits(cell, u64::from(t.degree) + 1, turned.len());
+        let exponents = digits(c.u64(5) % larger.len() as u64);
+        let added = |cell: usize| {
+            let factors = digits(cell as u64).into_iter().zip(&exponents).map(|(x, &e)| falling(x, e));
+            factors.fold(c.u64(6), u64::wrapping_mul)
+        };
+        let other = larger.iter().enumerate().map(|(cell, value)| value.wrapping_add(added(cell))).collect();
+        then(s, &t, [grid(&coefficients, s), larger, other])
+    })
+}
+
+/// A form is the same as what reduction leaves of it, and not when one bit below a bound is another.
+const SAME_REDUCED: Group = Group {
+    name: "demand 3, sameness of a reduced form",
+    names: &[NUMBERS[0], NUMBERS[1], NUMBERS[2], NUMBERS[3], "cell", "bit", "coefficients"],
+    small: |_| {},
+    random: Some(|r| {
+        let most = r.pick(&[9, 27, 64, 256]);
+        let mut c = random_case(most, r);
+        let cells = power(c.u64(1) + 1, c.u64(0) as usize).expect("a small box");
+        c.numbers.extend([r.below(cells), r.below(64)]);
+        c.with(r.words(cells))
+    }),
+    cost: 1,
+    judged: |c| {
+        with(c, |s| {
+            let (cells, mut reduced) = (in_box(&c.tables[0], s), in_box(&c.tables[0], s));
+            let (n, k, from, on) = (cells.len(), s.support.len(), reduced.as_mut_ptr(), s.support.as_ptr());
+            let answer = unsafe { poly::cobra_reduce(from, n, on, k, s.total, s.width, s.degree) };
+            let mut other = reduced.clone();
+            let (cell, bits) = counting_cell(c.u64(4), s);
+            other[cell] ^= 1 << (c.u64(5) % bits);
+            let both_ways = |b: &[u64]| vec![sameness::said(&cells, s, b, s), sameness::said(b, s, &cells, s)];
+            let said = Answer::number(answer).words("with the reduced form, both ways", both_ways(&reduced));
+            said.words("with another bit, both ways", both_ways(&other))
+        })
+    },
+    expected: |_| {
+        let said = Answer::number(0).words("with the reduced form, both ways", vec![1; 2]);
+        (Source::Document, said.words("with another bit, both ways", vec![0; 2]))
+    },
+};
+
+/// Among three forms, each in its own box, sameness is reflexive, symmetric and transitive.
+const SAME_OF_THREE: Group = Group {
+    name: "demand 3, sameness of three forms",
+    names: &[NUMBERS[0], NUMBERS[1], NUMBERS[2], NUMBERS[3], "coefficients"],
+    small: |_| {},
+    random: Some(|r| {
+        let c = random_case(27, r);
+        let cells = power(c.u64(1) + 1, c.u64(0) as usize).expect("a small box");
+        c.with(r.words(cells))
+    }),
+    cost: 2,
+    judged: |c| {
+        let all = each_with_each(c, sameness::said);
+        let same = |i: usize, j: usize| all[3 * i + j] == 1;
+        let holds = (0..27).map(|n| (n / 9, n / 3 % 3, n % 3)).all(|(i, j, k)| {
+            same(i, i) && same(i, j) == same(j, i) && (same(i, k) || !same(i, j) || !same(j, k))
+        });
+        Answer::value(holds.into()).words("each form with each", all)
+    },
+    expected: |c| {
+        let all = each_with_each(c, |a, s, b, t| definitions::same(a, s, b, t).into());
+        (Source::Document, Answer::value(1).words("each form with each", all))
+    },
+};
+
+/// The form of a case and two more in other boxes, with its values but for a coefficient here and there, which the seed
+/// decides: what is said of each with each.
+fn each_with_each(c: &Case, said: fn(&[u64], &Settings, &[u64], &Settings) -> u64) -> Vec<u64> {
+    let mut r = Random::new(c.u64(3), "three forms");
+    let mut first = with(c, |s| {
+        let form = Case::of([s.total.into(), s.width.into(), s.degree.into(), 0, 0]).with(s.support.to_vec());
+        form.with(in_box(&c.tables[0], s))
+    });
+    let boxes = [(); 2].map(|()| other_box(&first, &mut r));
+    boxes.iter().for_each(|other| clear_outside(&mut first, other));
+    let [second, third] = boxes.map(|other| in_other_box(&first, &other));
+    let mut forms = [first, second, third];
+    for form in &mut forms {
+        spoil_above_the_bounds(form, &mut r);
+        if r.one_in(4) {
+            change_a_coefficient(form, &mut r);
+        }
+    }
+    let pairs = forms.iter().flat_map(|a| forms.iter().map(move |b| (a, b)));
+    pairs.map(|(a, b)| said(&a.tables[1], &settings(a), &b.tables[1], &settings(b))).collect()
 }

@@ -10,6 +10,7 @@ use crate::ir::singleton_power_recovery::recover_singleton_powers;
 use crate::ir::MonomialKey;
 use crate::library_boxes::{conversions, poly, recovery, singletons, InOut};
 use crate::reference::{form, is_valid, map_of_box, normalized, unguarded, Convert};
+use crate::sameness;
 use crate::settings::Settings;
 
 /// One variable at width 8, to degree 1 and 2.
@@ -36,24 +37,18 @@ pub fn form_rows() -> Vec<Row> {
         with_value(|v| unsafe { poly::cobra_box_is_valid(cells.as_ptr(), n, on, k, s.total, s.width, s.degree, v) })
     };
     let rust_valid = |cells: &[u64], s: Settings| accepted([is_valid(cells, &s).into()]);
-    let same = |a: &[u64], s: Settings, b: &[u64], t: Settings| {
-        let (a_on, b_on) = ((s.support.as_ptr(), s.support.len()), (t.support.as_ptr(), t.support.len()));
-        with_value(|v| unsafe {
-            poly::cobra_box_same(
-                a.as_ptr(), a.len(), a_on.0, a_on.1, s.total, s.width, s.degree,
-                b.as_ptr(), b.len(), b_on.0, b_on.1, t.total, t.width, t.degree, v,
-            )
-        })
-    };
-    let rust_same = |a: &[u64], s: Settings, b: &[u64], t: Settings| accepted([(form(a, &s) == form(b, &t)).into()]);
+    let same = |a: &[u64], b: &[u64], s: Settings| with_value(|v| sameness::called(a, &s, b, &s, v));
+    let rust_same = |a: &[u64], b: &[u64], s: Settings| accepted([(form(a, &s) == form(b, &s)).into()]);
     let with_itself = |input, cells: &[u64], s: Settings, listed_here| {
-        row(input, || rust_same(cells, s, cells, s), same(cells, s, cells, s), &[0, 1], listed_here)
+        row(input, || rust_same(cells, cells, s), same(cells, cells, s), &[0, 1], listed_here)
+    };
+    let unequal = |input, a: &[u64], b: &[u64], s: Settings| {
+        row(input, || rust_same(a, b, s), same(a, b, s), &[0, 0], &[0, 1])
     };
     let mut stored = form(&[1, 0], &LINE);
     stored.coeffs.insert(MonomialKey::zero().with_exponent(0, 1), 0);
-    let pair = Settings { support: &[0, 1], total: 2, ..LINE };
-    let turned = Settings { support: &[1, 0], ..pair };
-    let one_of_two = Settings { total: 2, ..LINE };
+    let pair = Settings { support: &[0, 1], total: 2, ..SQUARE };
+    let quartic = Settings { width: 2, degree: 4, ..LINE };
     let cells = product_of_17();
     vec![
         row(
@@ -93,33 +88,22 @@ pub fn form_rows() -> Vec<Row> {
             &[8],
         ),
         row(
-            "sameness of 1 + x to degree 1 and to degree 2",
-            || rust_same(&[1, 1], LINE, &[1, 1, 0], SQUARE),
-            same(&[1, 1], LINE, &[1, 1, 0], SQUARE),
-            &[0, 1],
-            &[0, 0],
-        ),
-        row(
-            "sameness of x with support 0 1 and 1 0",
-            || rust_same(&[0, 1, 0, 0], pair, &[0, 0, 1, 0], turned),
-            same(&[0, 1, 0, 0], pair, &[0, 0, 1, 0], turned),
-            &[0, 1],
-            &[0, 0],
-        ),
-        row(
-            "sameness of x with support 0 and 0 1",
-            || rust_same(&[0, 1], one_of_two, &[0, 1, 0, 0], pair),
-            same(&[0, 1], one_of_two, &[0, 1, 0, 0], pair),
-            &[0, 1],
-            &[0, 0],
-        ),
-        row(
             "sameness of 1 and 1 + 0x with the 0 stored",
             || accepted([(form(&[1, 0], &LINE) == stored).into()]),
-            same(&[1, 0], LINE, &[1, 0], LINE),
+            same(&[1, 0], &[1, 0], LINE),
             &[0, 0],
             &[0, 1],
         ),
+        unequal("sameness of 1 and 257, w 8", &[1, 0], &[257, 0], LINE),
+        unequal("sameness of 0 and 128 x(x-1), w 8", &[0, 0, 0], &[0, 0, 128], SQUARE),
+        unequal("sameness of x(x-1) and 129 x(x-1), w 8", &[0, 0, 1], &[0, 0, 129], SQUARE),
+        unequal(
+            "sameness of 0 and 64 x(x-1) y(y-1), w 8",
+            &[0; 9],
+            &[0, 0, 0, 0, 0, 0, 0, 0, 64],
+            pair,
+        ),
+        unequal("sameness of 0 and x(x-1)(x-2)(x-3), w 2", &[0; 5], &[0, 0, 0, 0, 1], quartic),
         with_itself("sameness of 1 + x with itself, w 0", &[1, 1], Settings { width: 0, ..LINE }, &[3]),
         with_itself("sameness of 1 + x with itself, w 1", &[1, 1], Settings { width: 1, ..LINE }, &[3]),
         with_itself("sameness of 1 + x with itself, w 65", &[1, 1], Settings { width: 65, ..LINE }, &[3]),

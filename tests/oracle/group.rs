@@ -43,6 +43,8 @@ pub struct Part {
     pub cells: Vec<u64>,
 }
 
+const TRUTH: &str = "yes or no";
+
 /// All that a call leaves behind. Equality of two answers is the whole comparison.
 #[derive(Clone, Debug, Default, PartialEq, Eq)]
 pub struct Answer(pub Vec<Part>);
@@ -60,6 +62,11 @@ impl Answer {
         self.part("value", 64, vec![value])
     }
 
+    /// A yes (1) or a no (0), which `--numbers` counts.
+    pub fn and_truth(self, truth: u64) -> Self {
+        self.part(TRUTH, 64, vec![truth])
+    }
+
     pub fn bytes(self, label: &'static str, cells: impl IntoIterator<Item = u8>) -> Self {
         self.part(label, 8, cells.into_iter().map(u64::from).collect())
     }
@@ -72,6 +79,12 @@ impl Answer {
     pub fn refusal(&self) -> Option<usize> {
         let number = self.0.first().filter(|part| part.label == "answer")?;
         Some(number.cells[0] as usize)
+    }
+
+    /// Its yes or no, where it was accepted and has one.
+    pub fn truth(&self) -> Option<usize> {
+        let truth = self.0.iter().find(|part| part.label == TRUTH)?;
+        (self.refusal() == Some(0)).then_some(truth.cells[0] as usize)
     }
 
     /// How many cells beside the lent tables were written; none is expected.

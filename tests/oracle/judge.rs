@@ -34,6 +34,8 @@ pub struct Verdict {
     pub by_rust: u64,
     /// Of these, how many were accepted (0) or refused, by number.
     pub numbers: [u64; 13],
+    /// Of the accepted ones that are a no (0) or a yes (1), how many were which.
+    pub truths: [u64; 2],
     /// For each part of the answer the number of cases in which it had cells.
     pub filled: Vec<u64>,
     /// The case that failed first, and the smallest one found from it.
@@ -91,6 +93,9 @@ fn judge_case(group: &Group, case: &Case, plant: Plant, verdict: &mut Verdict) {
     verdict.cases += 1;
     verdict.by_rust += u64::from(from == Source::Rust);
     if let Some(count) = expected.refusal().and_then(|n| verdict.numbers.get_mut(n)) {
+        *count += 1;
+    }
+    if let Some(count) = expected.truth().and_then(|truth| verdict.truths.get_mut(truth)) {
         *count += 1;
     }
     for (count, part) in verdict.filled.iter_mut().zip(&judged.0) {

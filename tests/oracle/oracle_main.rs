@@ -28,6 +28,7 @@ mod recovery;
 mod reference;
 mod room;
 mod rows;
+mod sameness;
 mod settings;
 mod singletons;
 mod steps;
@@ -48,6 +49,7 @@ fn groups() -> Vec<(&'static Group, bool)> {
     groups.extend(leaves_math::GROUPS.map(always));
     groups.extend(leaves_mono::GROUPS.map(always));
     groups.extend(box_calls::GROUPS);
+    groups.extend(sameness::GROUPS);
     groups.extend(conversions::GROUPS);
     groups.extend(recovery::GROUPS);
     groups.extend(singletons::GROUPS);
@@ -151,6 +153,10 @@ fn compare_all(groups: &[(&Group, bool)], seed: u64, cases: u64, numbers: bool) 
             let counts = verdict.numbers.iter().enumerate().filter(|(_, &count)| count > 0);
             let shown = counts.map(|(n, &count)| format!("{n}: {}", commas(count)));
             println!("oracle:     by number: {}", shown.collect::<Vec<_>>().join("; "));
+            let [no, yes] = verdict.truths.map(commas);
+            if verdict.truths != [0, 0] {
+                println!("oracle:     accepted: yes {yes}, no {no}");
+            }
         }
         total += verdict.cases;
         total_by_rust += by_rust;
@@ -200,7 +206,7 @@ fn selftest(groups: &[(&Group, bool)], seed: u64, cases: u64) -> bool {
 /// Statements that are false must be refuted by the cases of the true ones beside them.
 fn refutes_what_is_false(seed: u64, cases: u64) -> bool {
     let mut all = true;
-    let statements = beyond::REFUTED.into_iter().chain(room::REFUTED);
+    let statements = beyond::REFUTED.into_iter().chain(room::REFUTED).chain(sameness::REFUTED);
     for (group, _) in statements.filter(|(_, here)| *here) {
         match judge(group, seed, cases, Plant::Nothing).failure {
             Some((_, smallest)) => show(group, "false, and refuted", &smallest),

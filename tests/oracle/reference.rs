@@ -166,6 +166,23 @@ pub fn normalized(terms: &CoeffMap, num_vars: u8, bitwidth: u32) -> CoeffMap {
     normalize_polynomial(&PolyIR { num_vars, bitwidth, terms: terms.clone() }).coeffs
 }
 
+/// The Rust's normal form of a box of falling factorials, over all variables: to powers, and to the normal form of these. The
+/// box is reduced first, since with no exponent above 1 it would come back from the powers unmasked.
+pub fn normal_form_of_falling(cells: &[u64], s: &Settings) -> NormalizedPoly {
+    let (num_vars, bitwidth) = (s.total as u8, s.width);
+    let terms = to_monomial_basis(&map_of_box(&reduced(cells, bitwidth), s), num_vars, bitwidth);
+    normalize_polynomial(&PolyIR { num_vars, bitwidth, terms })
+}
+
+/// How many terms the Rust's passes of both conversions meet there at most.
+pub fn steps_to_normal_form(s: &Settings) -> u64 {
+    let (cells, k) = (s.cells().expect("a box within the limit"), s.support.len() as u64);
+    match u64::from(s.degree) {
+        0 | 1 => cells,
+        degree => cells * (u64::from(s.total) + k * (degree - 1) / 2),
+    }
+}
+
 fn converted(cells: &[u64], s: &Settings, convert: Convert) -> Result<Vec<u64>, Refusal> {
     match s.refusal(false, &[cells.len()]) {
         Some(refusal) => Err(refusal),

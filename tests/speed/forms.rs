@@ -1,11 +1,10 @@
 //! Value, sum, reduction, validity and sameness of boxes. The Rust has no value, no sum and no reduction; its validity and its
 //! equality go over the maps of the coefficients that are not zero.
 
-use crate::boxes::{low_bits, twos_of_cells};
-use crate::ir::poly::NormalizedPoly;
+use crate::boxes::{low_bits, moved, twos_of_cells};
 use crate::library_boxes::{bytes, poly};
 use crate::random::Random;
-use crate::reference::map_of_box;
+use crate::reference;
 use crate::session::{check, run, Input, Programs, Session};
 use crate::settings::Settings;
 use crate::shapes::{self, Shape, CELLS_4096, CELLS_65536, SMALL, WIDE};
@@ -17,24 +16,50 @@ extern "C" {
     fn limit_sum(a: *const u64, b: *const u64, cells: usize, width: u32, degree: u8, out: *mut u64);
     fn limit_reduce(coeffs: *mut u64, cells: usize, width: u32, degree: u8);
     fn limit_is_valid(coeffs: *const u64, cells: usize, width: u32, degree: u8) -> u32;
-    fn limit_same(a: *const u64, b: *const u64, cells: usize, a_support: *const u64, b_support: *const u64, variables: usize) -> u32;
+    fn limit_same(a: *const LimitForm, b: *const LimitForm, width: u32) -> u32;
 }
+
+/// A form as the C takes it.
+#[repr(C)]
+struct LimitForm {
+    coeffs: *const u64,
+    cells: usize,
+    support: *const u64,
+    variables: usize,
+    degree: u8,
+}
+
+impl LimitForm {
+    fn of(cells: &[u64], s: &Settings) -> Self {
+        let (coeffs, support) = (cells.as_ptr(), s.support.as_ptr());
+        Self { coeffs, cells: cells.len(), support, variables: s.support.len(), degree: s.degree }
+    }
+}
+
+const SAME: &str = "box_same";
+const SAME_OTHER: &str = "box_same_other";
 
 pub fn time(session: &mut Session) {
     let boxes = [&SMALL[..], &CELLS_4096, &CELLS_65536].concat();
-    let calls: [(&str, fn(&mut Session, &Form)); 5] = [
+    let calls: [(&str, fn(&mut Session, &Form)); 6] = [
         ("box_value", |s, form| value(s, form, false)),
         ("box_sum", sum),
         ("box_reduce", reduce),
         ("box_is_valid", is_valid),
-        ("box_same", same),
+        (SAME, same),
+        (SAME_OTHER, same_turned),
     ];
     for (call, timed) in calls {
-        for (shape, listed) in shapes::all(&boxes, 2) {
+        // one variable cannot be turned round
+        let least = if call == SAME_OTHER { 2 } else { 1 };
+        for (shape, listed) in shapes::all(&boxes, 2).into_iter().filter(|((k, _), _)| *k >= least) {
             Form::with(shape, WIDE, listed, |form| timed(session, form));
         }
         Form::with((6, 3), 16, true, |form| timed(session, form));
         shapes::grow(session, call, "cells", 2);
+    }
+    for (shape, degree) in [((2, 3), 5), ((4, 7), 15)] {
+        Form::with(shape, WIDE, true, |form| same_enlarged(session, form, degree));
     }
     for shape in [&SMALL[..], &CELLS_4096].concat() {
         Form::with(shape, WIDE, true, |form| value(session, form, true));
@@ -68,12 +93,6 @@ impl Form<'_> {
         let shape = shapes::named((self.s.support.len(), self.s.degree));
         let (size, steps) = (self.cells, self.cells as u64);
         Input { call, shape, size, width: self.s.width, steps, listed: self.listed }
-    }
-
-    /// The Rust's form of the normal one.
-    fn rust(&self) -> NormalizedPoly {
-        let coeffs = map_of_box(&self.normal, &self.s);
-        NormalizedPoly { num_vars: self.s.total as u8, bitwidth: self.s.width, coeffs }
     }
 
     fn point(&self) -> Vec<u64> {
@@ -153,7 +172,7 @@ fn reduce(session: &mut Session, form: &Form) {
 }
 
 fn is_valid(session: &mut Session, form: &Form) {
-    let (s, cells, coeffs, rust) = (&form.s, form.cells, &form.normal, form.rust());
+    let (s, cells, coeffs, rust) = (&form.s, form.cells, &form.normal, reference::form(&form.normal, &form.s));
     let by_library = |value: &mut u64| unsafe {
         let (from, vars, k) = (coeffs.as_ptr(), s.support.as_ptr(), s.support.len());
         poly::cobra_box_is_valid(from, cells, vars, k, s.total, s.width, s.degree, value)
@@ -173,23 +192,44 @@ fn is_valid(session: &mut Session, form: &Form) {
     );
 }
 
+/// A normal form and its copy.
 fn same(session: &mut Session, form: &Form) {
-    let (s, cells) = (&form.s, form.cells);
-    let (a, b) = (&form.normal, form.normal.clone());
-    let (rust_a, rust_b) = (form.rust(), form.rust());
-    let (vars, other_vars, k) = (s.support, s.support.to_vec(), s.support.len());
+    time_same(session, form.input(SAME), form, (&form.normal.clone(), &form.s));
+}
+
+/// The form and the same polynomial with the support turned round.
+fn same_turned(session: &mut Session, form: &Form) {
+    let support: Vec<u64> = form.s.support.iter().rev().copied().collect();
+    let s = Settings { support: &support, ..form.s };
+    time_same(session, form.input(SAME_OTHER), form, (&moved(&form.normal, &form.s, &s), &s));
+}
+
+/// The form and the same polynomial in a box of a higher degree, whose cells are counted.
+fn same_enlarged(session: &mut Session, form: &Form, degree: u8) {
+    let s = Settings { degree, ..form.s };
+    let cells = moved(&form.normal, &form.s, &s);
+    let shape = format!("{}, degrees {} and {degree}", shapes::variables(s.support.len()), form.s.degree);
+    let (size, steps) = (cells.len(), cells.len() as u64);
+    time_same(session, Input { shape, size, steps, ..form.input(SAME_OTHER) }, form, (&cells, &s));
+}
+
+/// Sameness of a form and another one, which has the same values.
+fn time_same(session: &mut Session, input: Input, form: &Form, other: (&[u64], &Settings)) {
+    let ((a, s), (b, t)) = ((&form.normal, &form.s), other);
+    let (rust_a, rust_b) = (reference::form(a, s), reference::form(b, t));
+    let (limit_a, limit_b) = (LimitForm::of(a, s), LimitForm::of(b, t));
     let by_library = |value: &mut u64| unsafe {
         poly::cobra_box_same(
-            a.as_ptr(), cells, vars.as_ptr(), k, s.total, s.width, s.degree,
-            b.as_ptr(), cells, other_vars.as_ptr(), k, s.total, s.width, s.degree, value,
+            a.as_ptr(), a.len(), s.support.as_ptr(), s.support.len(), s.total, s.width, s.degree,
+            b.as_ptr(), b.len(), t.support.as_ptr(), t.support.len(), t.total, t.width, t.degree, value,
         )
     };
-    let by_limit = || unsafe { limit_same(a.as_ptr(), b.as_ptr(), cells, vars.as_ptr(), other_vars.as_ptr(), k) };
+    let by_limit = || unsafe { limit_same(&limit_a, &limit_b, s.width) };
     let mut found = 0;
-    check(by_library(&mut found) == 0 && found == u64::from(rust_a == rust_b), "the library's sameness is not the Rust's");
-    check(found == u64::from(by_limit()), "the C's sameness is not the Rust's");
+    check(rust_a == rust_b && by_limit() == 1, "two forms of one polynomial are not the same to the Rust or the C");
+    check(by_library(&mut found) == 0 && found == 1, "two forms of one polynomial are not the same to the library");
     session.time(
-        form.input("box_same"),
+        input,
         Programs {
             rust: Some(&mut run(|| black_box(&rust_a) == black_box(&rust_b))),
             beside: None,

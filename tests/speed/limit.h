@@ -31,6 +31,15 @@ static inline uint64_t inverse_odd(uint64_t odd)
     return x;
 }
 
+/* A form: its coefficients and its settings, but for total and width. */
+struct limit_form {
+    const uint64_t *coeffs;
+    size_t cells;
+    const uint64_t *support;
+    size_t variables;
+    uint8_t degree;
+};
+
 int limit_solve(uint64_t *matrix, uint64_t *right, size_t rows, size_t cols, uint32_t width, uint64_t *answer);
 
 #endif

@@ -12,6 +12,8 @@ enum Bound {
     AheadOfRust,
     /// Nanoseconds at most.
     Nanoseconds(f64),
+    /// Nanoseconds for each cell at most.
+    NanosecondsACell(f64),
 }
 use Bound::*;
 
@@ -60,6 +62,8 @@ const TARGETS: &[Target] = &[
     target("box_is_valid", "4 cells", |r| cells(r, 4), OfC(2.0)),
     target("box_is_valid", "16 cells", |r| cells(r, 16), OfC(1.5)),
     target("box_is_valid", "from 256 cells on", large, OfC(0.8)),
+    target("box_same", "every shape of the table", |r| r.input.listed, OfC(1.5)),
+    target("box_same_other", "65,536 cells", |r| r.input.size == 65_536, NanosecondsACell(10.0)),
     target("normalize_polynomial", "4 cells", |r| cells(r, 4), OfC(2.0)),
     target("normalize_polynomial", "16 cells", |r| cells(r, 16), OfC(1.5)),
     target("normalize_polynomial", "from 256 cells on", large, OfC(1.0)),
@@ -90,7 +94,11 @@ pub fn table(session: &Session) {
         }
         let part = span(&rows, |r| Some(r.ours / r.c));
         let gain = span(&rows, |r| r.rust.map(|rust| rust / r.ours));
-        let ns = span(&rows, |r| Some(r.ours * 1e9));
+        let a_cell = |r: &Row| r.ours * 1e9 / r.input.size as f64;
+        let ns = match t.bound {
+            NanosecondsACell(_) => span(&rows, |r| Some(a_cell(r))) + " a cell",
+            _ => span(&rows, |r| Some(r.ours * 1e9)),
+        };
         let (wanted, reached) = match t.bound {
             OfC(most) => (format!("{most} of C"), rows.iter().all(|r| r.ours <= most * r.c)),
             OfCAheadOfRust(most) => (
@@ -99,6 +107,7 @@ pub fn table(session: &Session) {
             ),
             AheadOfRust => ("ahead of the Rust".into(), rows.iter().all(|r| r.rust.map_or(true, |rust| r.ours <= rust))),
             Nanoseconds(most) => (format!("{most} ns"), rows.iter().all(|r| r.ours * 1e9 <= most)),
+            NanosecondsACell(most) => (format!("{most} ns a cell"), rows.iter().all(|r| a_cell(r) <= most)),
         };
         let reached = if reached { "yes" } else { "NO" };
         println!("| `{}` | {} | {part} | {gain} | {ns} | {wanted} | {reached} |", t.call, t.which);

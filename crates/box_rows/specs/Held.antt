@@ -11,7 +11,7 @@ use Rattle.meaning.specs.Boxes.{cells}
 use Rattle.meaning.specs.Values.{bound, boxTotal, boxReduced}
 use Rattle.meaning.specs.Recovery.{every}
 use Rattle.box_rows.specs.Rows.{holds}
-use Rattle.box_rows.specs.Bounds.{isBelow}
+use Rattle.box_rows.specs.Bounds.{isBelow, isEqual}
 
 pub holds-of : (ds : List ℕ) (n : ℕ) → n ≡ cells ds → cells ds ≤ 65536 → holds ds n ≡ true
 holds-of ds n e h = ap₂ _&&_ (le-leb n 65536 (le-trans (le-of-eq e) h)) (eq-eqb n (cells ds) e)
@@ -40,3 +40,10 @@ module _ (ds : List ℕ) (w : ℕ) (small : cells ds ≤ 65536) (width : w ≤ 6
       e
       ∙ ap (_&& every (cells ds) (isBelow (min w 64) ds c)) (holds-of ds (length c) x small)
       ∙ ap (λ (k : ℕ). every (cells ds) (isBelow k ds c)) (min-eq-left width)
+
+  pub agree-held : (a b : List ℕ) (r : Bool) → length a ≡ cells ds → length b ≡ cells ds
+      → r ≡ (eqb (length b) (length a) && holds ds (length a) && every (cells ds) (isEqual (min w 64) ds a b)) → r ≡ every (cells ds) (isEqual w ds a b)
+  agree-held a b r x y e =
+      e
+      ∙ ap₂ (λ (p q : Bool). p && q && every (cells ds) (isEqual (min w 64) ds a b)) (eq-eqb (length b) (length a) (y ∙ sym x)) (holds-of ds (length a) x small)
+      ∙ ap (λ (k : ℕ). every (cells ds) (isEqual k ds a b)) (min-eq-left width)

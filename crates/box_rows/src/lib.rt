@@ -1,4 +1,5 @@
-// Boxes row by row: sum, reduction, and the test of all coefficients against their bounds, with no division and no call for a cell.
+// Boxes row by row: sum, reduction, and the tests that all coefficients are below their bounds and that two boxes are equal modulo them, with no division and
+// no call for a cell.
 ghost use mathlib.Core.Path.{_≡_};
 ghost use mathlib.Core.Bool.{false, cond, _&&_};
 ghost use Prim.Native.Nat.{min};
@@ -8,12 +9,12 @@ ghost use Rattle.meaning.specs.Boxes.{cells};
 ghost use Rattle.meaning.specs.Values.{bound, boxTotal, boxReduced};
 ghost use Rattle.meaning.specs.Recovery.{every};
 ghost use Rattle.box_rows.specs.Rows.{holds};
-ghost use Rattle.box_rows.specs.Bounds.{isBelow};
+ghost use Rattle.box_rows.specs.Bounds.{isBelow, isEqual};
 
-mod bounds;
 pub mod layout;
 mod reductions;
 mod sums;
+mod tests;
 
 // Whether a box has 65,536 cells at most and n is their number.
 fn are_cells(degrees: &[u8], n: usize) -> bool
@@ -69,7 +70,22 @@ pub fn bounded(coeffs: &[u64], degrees: &[u8], bits: u32) -> bool
         && every (cells (now (degrees .entry))) (isBelow (min bits 64) (now (degrees .entry)) (now (coeffs .entry)))) ⌝ }
 {
     if are_cells(degrees, coeffs.len()) {
-        return bounds::bounded_whole(coeffs, degrees, to_64(bits));
+        return tests::bounded_whole(coeffs, degrees, to_64(bits));
+    }
+    false
+}
+
+// Whether two boxes of coefficients are equal cell by cell modulo the cells' bounds 2^(bits - q); a width above 64 counts as 64. No where the box has more
+// than 65,536 cells, or a table has not one number for each cell.
+pub fn agree(a: &[u64], b: &[u64], degrees: &[u8], bits: u32) -> bool
+    ensures { λ r. ⌜ r ≡ (eqb (length (now (b .entry))) (length (now (a .entry))) && holds (now (degrees .entry)) (length (now (a .entry)))
+        && every (cells (now (degrees .entry))) (isEqual (min bits 64) (now (degrees .entry)) (now (a .entry)) (now (b .entry)))) ⌝ }
+{
+    if b.len() != a.len() {
+        return false;
+    }
+    if are_cells(degrees, a.len()) {
+        return tests::agree_whole(a, b, degrees, to_64(bits));
     }
     false
 }

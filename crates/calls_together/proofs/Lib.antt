@@ -2,3 +2,4 @@
 pub mod Together
 pub mod RoundTrips
 pub mod KeptRooms
+pub mod Compared

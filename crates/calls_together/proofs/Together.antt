@@ -34,7 +34,7 @@ passes-with p w e =
       lengths = e;
     }
 
-abbrev Recovers : ℕ → ℕ → List ℕ → List ℕ → List ℕ → List ℕ → Type 0
+abbrev pub Recovers : ℕ → ℕ → List ℕ → List ℕ → List ℕ → List ℕ → Type 0
 Recovers total w support ds v out = CallPasses 65536 true total (widthFits w) support ds (λ n. (v, n) ∷ (out, n) ∷ [])
 
 module _ {total w : ℕ} {support ds v out : List ℕ} {number : ℕ} {after : List ℕ}

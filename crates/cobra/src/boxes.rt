@@ -1,5 +1,5 @@
-// Calls on boxes of coefficients and grids of values: the calls of `poly`, `basis_transform`, `poly_normalizer` and `multivar_poly_recovery`. Tables and
-// support are of u64, first support variable fastest; what a call does is said there.
+// Calls on boxes of coefficients and grids of values: the calls of `poly`, `sameness`, `basis_transform`, `poly_normalizer` and `multivar_poly_recovery`.
+// Tables and support are of u64, first support variable fastest; what a call does is said there.
 ghost use mathlib.Core.Path.{_≡_};
 ghost use mathlib.Core.Bool.{true, false};
 ghost use Prim.Native.Nat.{_^_};
@@ -11,7 +11,7 @@ ghost use Rattle.meaning.specs.Calls.{validReply, sameReply, valueReply, sumNum
 ghost use Rattle.meaning.specs.Replies.{told};
 ghost use Rattle.meaning.specs.Singletons.{singletonNumber, singletonLeft};
 ghost use Rattle.demand3.specs.Settings.{CallPasses};
-ghost use Rattle.demand3.specs.Promises.{Judged, Valued, Summed, Reduced, ToFalling, ToPowers, Normalised, Decides};
+ghost use Rattle.demand3.specs.Promises.{Judged, Compared, Valued, Summed, Reduced, ToFalling, ToPowers, Normalised, Decides};
 ghost use Rattle.settings.specs.Forms.{cubeForm};
 
 // 1 at `value` where the box is a normal form, else 0.
@@ -33,7 +33,7 @@ pub extern "C" fn cobra_box_is_valid(
     answers::deliver_truth(poly::is_valid(coeffs, support, total, width, degree), value)
 }
 
-// 1 at `value` where two forms are the same, else 0.
+// 1 at `value` where two forms are the same, that is, have equal totals, equal widths and equal values at every whole-number point, else 0.
 #[no_mangle]
 pub extern "C" fn cobra_box_same(
     a: &[u64],
@@ -48,11 +48,13 @@ pub extern "C" fn cobra_box_same(
     bdegree: u8,
     value: &mut u64,
 ) -> u32
-    ensures { λ r. ⌜ told r (now (value .exit)) ≡ sameReply (cubeForm atotal awidth (now (asupport .entry)) adegree (now (a .entry)))
+    ensures says { λ r. ⌜ told r (now (value .exit)) ≡ sameReply (cubeForm atotal awidth (now (asupport .entry)) adegree (now (a .entry)))
         (cubeForm btotal bwidth (now (bsupport .entry)) bdegree (now (b .entry))) ⌝ }
+    ensures compares { λ r. ⌜ Compared (cubeForm atotal awidth (now (asupport .entry)) adegree (now (a .entry)))
+        (cubeForm btotal bwidth (now (bsupport .entry)) bdegree (now (b .entry))) (told r (now (value .exit))) ⌝ }
 {
     answers::deliver_truth(
-        poly::same(
+        sameness::same(
             a,
             asupport,
             atotal,

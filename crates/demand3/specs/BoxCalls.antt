@@ -1,12 +1,12 @@
 -- The calls on boxes keep their promises: each follows from the equations of the call's contract.
-use mathlib.Core.Path.{_≡_, refl, sym, subst, ap, ap₂, _∙_}
+use mathlib.Core.Path.{_≡_, refl, sym, ap, ap₂, _∙_}
 use mathlib.Core.Logic.{_⊎_, inl, inr, _↔_}
 use mathlib.Core.Bool.{Bool, true, false, _&&_}
 use Prim.Native.Nat.{ℕ, zero, suc, _+_, _%_, _^_}
 use mathlib.Core.List.{List, [], _∷_, map}
 use native.Mathlib.Nat.{zero-mod, mod-lt}
 use borrow.Author.Tests.{ltb-true, lt-ltb}
-use lib.Dec.{T, ltb, eqb}
+use lib.Dec.{ltb, eqb}
 use lib.Pow.{pow-pos}
 use lib.IntN.{ℤ, pos}
 use lib.ListN.{length, getD}
@@ -21,7 +21,7 @@ use Rattle.meaning.specs.Settings.{widthFits, callNumber}
 use Rattle.meaning.specs.Calls.{reply, left, truth, validReply, valueReply, inOutNumber, sumNumber, sumLeft, reduceNumber, reduceLeft, convertLeft}
 use Rattle.theory.specs.AcceptedCalls.{number-reply}
 use Rattle.theory.specs.Congruence.{cong-of-eq, cong-sym, cong-trans, mod-cong}
-use Rattle.theory.specs.Every.{every-iff}
+use Rattle.theory.specs.Every.{true-iff, every-iff}
 use Rattle.theory.specs.Tables.{length-tabulate, at-tabulate}
 use Rattle.theory.specs.Integers.{residue-boxAt}
 use Rattle.theory.specs.Values.{value-cong-point}
@@ -193,15 +193,31 @@ module _ (total w : ℕ) (support ds : List ℕ) where
           only = λ z p h d n. normal-form-unique w ds p d (normalBox w ds c) n (normalBox-of w ds p c h) ∙ sym (after-0 _ f z);
         }
 
--- ---- validity
-
-true-of : (b : Bool) → T b → b ≡ true
-true-of true t = refl
-true-of false t = absurd t
+-- ---- yes or no
 
 truth-iff : (b : Bool) → (truth b ≡ 1) ↔ (b ≡ true)
 truth-iff true = (λ e. refl, λ e. refl)
 truth-iff false = (λ e. suc-zero 0 (sym e), λ e. false-true (sym e))
+
+-- whatever the causes of refusal are, and whatever it is that the test tells
+pub yes-or-no : {C P : Type 0} (cause : ℕ) (test : Bool) → (cause ≡ 0) ↔ C → (C → (test ≡ true) ↔ P) → {answer : Reply} → answer ≡ reply cause (truth test)
+    → ((answer .number ≡ 0) ↔ C) × ((answer .value ≡ 0) ⊎ (answer .value ≡ 1)) × (answer .number ≡ 0 → (answer .value ≡ 1) ↔ P)
+yes-or-no cause test conditions tells e =
+    let n = ap (λ (r : Reply). r .number) e ∙ number-reply cause (truth test) in (
+      accepted-iff conditions n,
+      rw e (either cause test),
+      λ z.
+          let v = ap (λ (r : Reply). r .value) e ∙ reply-value cause (truth test) (sym n ∙ z) in
+          let i = tells (conditions .0 (sym n ∙ z)) in
+          (λ y. i .0 (truth-iff test .0 (sym v ∙ y)), λ s. v ∙ truth-iff test .1 (i .1 s)),
+    )
+  where
+    either : (k : ℕ) (b : Bool) → (reply k (truth b) .value ≡ 0) ⊎ (reply k (truth b) .value ≡ 1)
+    either zero true = inr refl
+    either zero false = inl refl
+    either (suc k) b = inl refl
+
+-- ---- validity
 
 module _ (w : ℕ) (ds c : List ℕ) where
   -- the test passes exactly for a normal form at a width that fits
@@ -213,29 +229,15 @@ module _ (w : ℕ) (ds c : List ℕ) where
         λ e.
             let s = both .0 e in (
               s .0,
-              normal-iff w ds c .0 (record { whole = whole; below = λ n l. ltb-true _ _ (true-of _ (all .0 (subst T (sym (s .1)) tt) n l)) }),
+              normal-iff w ds c .0 (record { whole = whole; below = λ n l. ltb-true _ _ (true-iff _ .1 (all .0 (true-iff _ .0 (s .1)) n l)) }),
             ),
-        λ s. both .1 (s .0, true-of _ (all .1 (λ n l. subst T (sym (lt-ltb _ _ (normal-iff w ds c .1 (s .1) .below n l))) tt))),
+        λ s. both .1 (s .0, true-iff _ .1 (all .1 (λ n l. true-iff _ .0 (lt-ltb _ _ (normal-iff w ds c .1 (s .1) .below n l))))),
       )
 
   pub judged : (total : ℕ) (support : List ℕ) {answer : Reply} → answer ≡ validReply total w support ds c
       → Judged (CallPasses 65536 false total true support ds (λ n. (c, n) ∷ [])) w ds c answer
   unfolding validReply
   judged total support e =
-      let cause = callNumber false total true support ds (eqb (length c) (cells ds)) in
       let passes = call-iff false total true support ds (λ n. (c, n) ∷ []) in
-      let test = widthFits w && every (cells ds) (λ n. ltb (at c n) (bound w (digits ds n))) in
-      let n = ap (λ (r : Reply). r .number) e ∙ number-reply cause (truth test) in
-      record {
-        accepted = accepted-iff passes n;
-        either = rw e (truth-either cause test);
-        yes = λ z.
-            let v = ap (λ (r : Reply). r .value) e ∙ reply-value cause (truth test) (sym n ∙ z) in
-            let i = test-iff (passes .0 (sym n ∙ z) .lengths .0) in
-            (λ y. i .0 (truth-iff test .0 (sym v ∙ y)), λ s. v ∙ truth-iff test .1 (i .1 s));
-      }
-    where
-      truth-either : (k : ℕ) (b : Bool) → (reply k (truth b) .value ≡ 0) ⊎ (reply k (truth b) .value ≡ 1)
-      truth-either zero true = inr refl
-      truth-either zero false = inl refl
-      truth-either (suc k) b = inl refl
+      let told = yes-or-no (callNumber false total true support ds (eqb (length c) (cells ds))) _ passes (λ p. test-iff (p .lengths .0)) e in
+      record { accepted = told .0; either = told .1; yes = told .2 }

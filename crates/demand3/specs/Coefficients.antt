@@ -1,52 +1,31 @@
 -- The coefficients of a polynomial and the tables that hold them: at every whole-number point the polynomial's value is that of the powers with the
 -- table's coefficients. Every table holds the coefficients of a polynomial, and every polynomial has such a table.
-use mathlib.Core.Path.{_≡_, refl, sym, ap, ap₂, subst, _∙_}
-use mathlib.Core.Bool.{Bool, true, false, _&&_, cond}
+use mathlib.Core.Path.{_≡_, refl, sym, ap, ap₂, _∙_}
+use mathlib.Core.Bool.{Bool, true, false, cond}
 use Prim.Native.Nat.{ℕ, zero, suc, _*_, _%_, _^_, _<_, suc-le-suc}
-use mathlib.Core.List.{List, [], _∷_, map}
+use mathlib.Core.List.{List, map}
 use native.Mathlib.Nat.{zero-mul, mod-eq-of-lt, zero-lt-suc, not-suc-le-zero, le-of-suc-le-suc}
 use native.Mathlib.Decide.{ℕ-discrete}
-use borrow.Author.Tests.{eqb-true, eq-eqb, ne-eqb}
+use borrow.Author.Tests.{eq-eqb, ne-eqb}
 use native.Mathlib.Omega.{arith}
-use lib.Dec.{T, eqb, eqb·zero-suc, eqb·suc-zero, eqb·suc-suc}
+use lib.Dec.{eqb, eqb·zero-suc, eqb·suc-zero, eqb·suc-suc}
 use lib.Pow.{pow-pos}
 use lib.IntN.{ℤ, pos, _+ℤ_, +ℤ-idl, +ℤ-idr}
 use lib.ListN.{length}
 use Rattle.meaning.specs.Tables.{tabulate, at}
-use Rattle.meaning.specs.Boxes.{cells, digits, cell, Within, none, next}
-use Rattle.meaning.specs.Values.{product}
+use Rattle.meaning.specs.Boxes.{cells, digits, cell, Within}
 use Rattle.meaning.specs.Integers.{residue}
 use Rattle.meaning.specs.Polynomials.{Term, Terms, no-terms, one-more, termsAt}
 use Rattle.meaning.specs.Calls.{sameList, truth}
 use Rattle.theory.specs.Congruence.{Cong, cong-of-eq, cong-sym, cong-trans, cong-add}
 use Rattle.theory.specs.Tables.{length-tabulate, at-tabulate}
 use Rattle.theory.specs.Boxes.{digits-within, cell-digits}
-use Rattle.theory.specs.StirlingNumbers.{delta}
+use Rattle.theory.specs.EqualLists.{same-true, same-false, product-delta}
 use Rattle.theory.specs.Evaluation.{eval, eval-cong}
 use Rattle.theory.specs.Integers.{residue-pos, residue-add, residue-lt}
 use Rattle.theory.specs.PowerBoxes.{gathered, residue-termsAt, termsOf, polynomialOf}
 use Rattle.theory.specs.Values.{entry, within-of-cells}
-use Rattle.demand3.specs.Tests.{and-true}
 use Rattle.demand3.specs.Words.{polynomialValue, coefficientOf, Coefficients}
-
--- 1 where the numbers are equal, else 0
-delta-eq : (j e : ℕ) → delta j e ≡ truth (eqb e j)
-unfolding delta
-delta-eq zero zero = refl
-delta-eq zero (suc e) = ap truth (sym (eqb·suc-zero e))
-delta-eq (suc j) zero = ap truth (sym (eqb·zero-suc j))
-delta-eq (suc j) (suc e) = delta-eq j e ∙ ap truth (sym (eqb·suc-suc e j))
-
-truth-and : (a b : Bool) → truth a * truth b ≡ truth (a && b)
-truth-and true b = omega arith
-truth-and false b = omega arith
-
--- 1 where the lists are equal, else 0
-product-delta : {ds js es : List ℕ} → Within ds js → Within ds es → product delta (length ds) js es ≡ truth (sameList es js)
-unfolding product sameList
-product-delta none none = refl
-product-delta (next {e = j} {es = js} p u) (next {e = e} {es = es} q w) =
-    ap₂ _*_ (delta-eq j e) (product-delta u w) ∙ truth-and (eqb e j) (sameList es js)
 
 module _ {m : ℕ} (positive : 0 < m) where
   -- one term
@@ -95,29 +74,14 @@ coefficients w ds p degrees =
 
 -- ---- the polynomial of a table
 
-sameList-refl : (xs : List ℕ) → sameList xs xs ≡ true
-unfolding sameList
-sameList-refl [] = refl
-sameList-refl (x ∷ xs) = ap₂ _&&_ (eq-eqb x x refl) (sameList-refl xs)
-
-sameList-eq : (xs ys : List ℕ) → sameList xs ys ≡ true → xs ≡ ys
-unfolding sameList
-sameList-eq [] [] e = refl
-sameList-eq [] (y ∷ ys) e = absurd (subst T (sym e) tt)
-sameList-eq (x ∷ xs) [] e = absurd (subst T (sym e) tt)
-sameList-eq (x ∷ xs) (y ∷ ys) e = ap₂ _∷_ (eqb-true x y (and-true (eqb x y) (sameList xs ys) .0 e .0)) (sameList-eq xs ys (and-true (eqb x y) (sameList xs ys) .0 e .1))
-
 -- cells with the same exponents are the same
 sameList-digits : (ds : List ℕ) (i n : ℕ) → i < cells ds → n < cells ds → sameList (digits ds i) (digits ds n) ≡ eqb i n
 sameList-digits ds i n p q = go (ℕ-discrete i n)
   where
-    other : (i ≡ n → ⊥) → (b : Bool) → sameList (digits ds i) (digits ds n) ≡ b → b ≡ false
-    other ne true e = absurd (ne (sym (cell-digits ds i p) ∙ ap (cell ds) (sameList-eq (digits ds i) (digits ds n) e) ∙ cell-digits ds n q))
-    other ne false e = refl
-
     go : Dec (i ≡ n) → sameList (digits ds i) (digits ds n) ≡ eqb i n
-    go (yes e) = ap (λ (k : ℕ). sameList (digits ds i) (digits ds k)) (sym e) ∙ sameList-refl (digits ds i) ∙ sym (eq-eqb i n e)
-    go (no ne) = other ne (sameList (digits ds i) (digits ds n)) refl ∙ sym (ne-eqb i n ne)
+    go (yes e) = same-true (digits ds i) (digits ds n) (ap (digits ds) e) ∙ sym (eq-eqb i n e)
+    go (no ne) =
+        same-false (digits ds i) (digits ds n) (λ e. ne (sym (cell-digits ds i p) ∙ ap (cell ds) e ∙ cell-digits ds n q)) ∙ sym (ne-eqb i n ne)
 
 -- of terms given by a rule none has the exponents es, or the n-th alone
 coefficient-none : (k : ℕ) (f : ℕ → Term) (es : List ℕ) → ((i : ℕ) → i < k → sameList (f i .exponents) es ≡ false)

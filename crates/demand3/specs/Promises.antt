@@ -10,10 +10,11 @@ use Rattle.meaning.specs.Tables.{tabulate, at}
 use Rattle.meaning.specs.Boxes.{cells}
 use Rattle.meaning.specs.Factorials.{degreeCap}
 use Rattle.meaning.specs.Polynomials.{Term}
+use Rattle.meaning.specs.Sameness.{Form, Same}
 use Rattle.meaning.specs.Replies.{Reply}
 use Rattle.demand3.specs.Words.{polynomialValue, boxValue, PointOf, OnGrid, Agreeing, BoxOnGrid, Disagreement, Deciding, Another}
 use Rattle.demand3.specs.Words.{NormalForm, NormalFormOf, SumOf, Coefficients}
-use Rattle.demand3.specs.Settings.{WidthFits}
+use Rattle.demand3.specs.Settings.{WidthFits, FormPasses}
 
 -- recovery of the grid v at width w over the degrees ds has returned the number and left the table `after`
 pub record Decides (C : Type 0) (w : ℕ) (ds v : List ℕ) (number : ℕ) (after : List ℕ) : Type 0 where
@@ -61,6 +62,13 @@ pub record Judged (C : Type 0) (w : ℕ) (ds c : List ℕ) (answer : Reply) : Ty
   pub accepted : (answer .number ≡ 0) ↔ C
   pub either : (answer .value ≡ 0) ⊎ (answer .value ≡ 1)
   pub yes : answer .number ≡ 0 → (answer .value ≡ 1) ↔ (WidthFits w × NormalForm w ds c)
+
+-- the answer to whether the forms f and g are the same: 1 exactly when totals and widths are equal and both have the same value modulo 2^w at every
+-- whole-number point, negative ones too, else 0
+pub record Compared (f g : Form) (answer : Reply) : Type 0 where
+  pub accepted : (answer .number ≡ 0) ↔ (FormPasses f × FormPasses g)
+  pub either : (answer .value ≡ 0) ⊎ (answer .value ≡ 1)
+  pub yes : answer .number ≡ 0 → (answer .value ≡ 1) ↔ Same f g
 
 -- coefficients of powers c, converted to those of falling factorials: the box has at every point the value of the polynomial
 pub record ToFalling (C : Type 0) (w : ℕ) (ds c : List ℕ) (number : ℕ) (after : List ℕ) : Type 0 where

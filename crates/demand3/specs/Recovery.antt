@@ -1,23 +1,23 @@
 -- What the two definitions of recovery say in the words of demand 3: every difference passes exactly when some polynomial agrees, of any exponents or within
 -- the box; the answer has the values of all of them; it is the only normal form that agrees.
 use mathlib.Core.Path.{_≡_, sym, _∙_}
-use Prim.Native.Nat.{ℕ, zero, suc, _+_, _%_, _^_, _≤_, _<_, suc-le-suc}
+use Prim.Native.Nat.{ℕ, suc, _+_, _%_, _^_, _<_, suc-le-suc}
 use mathlib.Core.List.{List, _++_, map}
 use native.Mathlib.Decide.{ℕ-discrete}
-use native.Mathlib.Nat.{not-suc-le-zero, le-of-suc-le-suc, add-zero, zero-add, add-comm}
+use native.Mathlib.Nat.{add-zero, zero-add, add-comm}
 use lib.Dec.{T}
 use lib.Pow.{pow-pos}
 use lib.IntN.{ℤ, pos}
 use lib.ListN.{length}
 use Rattle.meaning.specs.Tables.{at}
-use Rattle.meaning.specs.Boxes.{cells, digits, Within, none, next}
+use Rattle.meaning.specs.Boxes.{cells, digits}
 use Rattle.meaning.specs.Factorials.{degreeCap}
 use Rattle.meaning.specs.Values.{value, Agrees}
 use Rattle.meaning.specs.Integers.{residue}
 use Rattle.meaning.specs.Polynomials.{Term, Polynomial, polynomialAt, PolynomialAgrees}
 use Rattle.meaning.specs.Recovery.{accepts, answer}
 use Rattle.theory.specs.Congruence.{Cong, cong-of-eq, cong-sym, cong-trans, cong-add-left, cong-add-cancel, eq-of-cong}
-use Rattle.theory.specs.Boxes.{digits-within}
+use Rattle.theory.specs.Boxes.{digits-within, within-at}
 use Rattle.theory.specs.Every.{failing}
 use Rattle.theory.specs.Integers.{residue-boxAt, residue-lt}
 use Rattle.theory.specs.Values.{value-cong-point}
@@ -88,11 +88,6 @@ module _ (w : ℕ) (ds v : List ℕ) where
 
 -- ---- what a grid leaves open
 
-within-at : {ds es : List ℕ} → Within ds es → (i : ℕ) → i < length ds → at es i ≤ at ds i
-within-at none i l = absurd (not-suc-le-zero l)
-within-at (next p u) zero l = p
-within-at (next p u) (suc i) l = within-at u i (le-of-suc-le-suc l)
-
 -- where a degree d is below the deciding one, the falling factorial to d + 1 can be added: it is 0 on the grid, and not at d + 1
 pub another : (w : ℕ) (ds v : List ℕ) → T (accepts w ds v) → (i : ℕ) → i < length ds → suc (at ds i) < degreeCap w → Another w ds v (answer w ds v)
 another w ds v t i l h =
@@ -130,7 +125,7 @@ another w ds v t i l h =
     vanishing : (j : ℕ) → Cong (2 ^ w) (polynomialValue w ds p (grid j) + polynomialValue w ds q (grid j)) (polynomialValue w ds p (grid j))
     vanishing j =
         cong-trans
-        (cong-add-left (polynomialValue w ds p (grid j)) (fallingTerms-zero w k i n l (digits ds j) (suc-le-suc (within-at (digits-within ds j) i l))))
+        (cong-add-left (polynomialValue w ds p (grid j)) (fallingTerms-zero w k i n l (digits ds j) (suc-le-suc (within-at (digits-within ds j) i))))
         (cong-of-eq (2 ^ w) (add-zero _))
 
     nothing : polynomialValue w ds p (map pos (alone i n)) ≡ polynomialValue w ds (p ++ q) (map pos (alone i n))

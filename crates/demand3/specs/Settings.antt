@@ -11,6 +11,7 @@ use lib.Dec.{leb, ltb, eqb}
 use lib.ListN.{length}
 use Rattle.meaning.specs.Tables.{at}
 use Rattle.meaning.specs.Boxes.{cells}
+use Rattle.meaning.specs.Sameness.{Form}
 use Rattle.meaning.specs.Settings.{widthFits, tableLimit, some, repeated, limitedNumber, callNumber, first}
 use Rattle.demand3.specs.Tests.{false-true, and-true, cond-false, cond-true, first-zero, not-6, cond-not-6, first-not-6, none-pass, none-repeated, positive-iff}
 
@@ -46,6 +47,10 @@ pub record CallPasses (limit : ℕ) (strict : Bool) (total : ℕ) (fits : Bool) 
   pub size : cells ds ≤ limit
   -- 9: every lent table has its exact length
   pub lengths : Exact (tables (cells ds))
+
+-- a form passes: settings as above, a degree 0 allowed, and a coefficient for each cell
+abbrev pub FormPasses : Form → Type 0
+FormPasses f = CallPasses 65536 false (f .total) (widthFits (f .width)) (f .support) (f .degrees) (λ n. (f .coefficients, n) ∷ [])
 
 -- ---- lengths
 

@@ -13,6 +13,7 @@ use Rattle.meaning.specs.Values.{weight}
 use Rattle.meaning.specs.Integers.{residue}
 use Rattle.meaning.specs.Polynomials.{Term, Terms, termsAt, boxAt}
 use Rattle.meaning.specs.Calls.{sameList}
+use Rattle.meaning.specs.Sameness.{Form, scattered, coefficientAt}
 
 -- ---- values
 
@@ -101,3 +102,21 @@ pub record Coefficients (w : ℕ) (ds : List ℕ) (p : List Term) (c : List ℕ)
   pub within : Terms ds p
   pub whole : length c ≡ cells ds
   pub each : (n : ℕ) → n < cells ds → at c n % 2 ^ w ≡ residue (2 ^ w) (coefficientOf p (digits ds n))
+
+-- ---- forms over all variables
+
+-- the polynomial p over all `total` variables agrees with the grid v of the support: no exponent is above its variable's degree, which is 0 outside the
+-- support, and at every grid point, where the other variables are 0, its value is the lent one modulo 2^w
+pub record AgreeingOver (total w : ℕ) (support ds v : List ℕ) (p : List Term) : Type 0 where
+  pub degrees : Terms (scattered total support ds) p
+  pub everywhere : (n : ℕ) → n < cells ds → residue (2 ^ w) (termsAt total p (map pos (scattered total support (digits ds n)))) ≡ at v n % 2 ^ w
+
+-- the coefficient that a form has of an exponent list over all variables, 0 where its box has no such cell
+abbrev pub coefficientIn : Form → List ℕ → ℕ
+coefficientIn f es = coefficientAt (f .total) (f .support) (f .degrees) (f .coefficients) es
+
+-- the form g has the coefficients of f in a box of its own, with another order of the support or other degrees
+pub record Relaid (f g : Form) : Type 0 where
+  pub totals : f .total ≡ g .total
+  pub widths : f .width ≡ g .width
+  pub each : (es : List ℕ) → coefficientIn f es ≡ coefficientIn g es

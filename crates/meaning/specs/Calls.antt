@@ -8,6 +8,7 @@ use Rattle.meaning.specs.Tables.{tabulate, at}
 use Rattle.meaning.specs.Boxes.{cells, digits}
 use Rattle.meaning.specs.Values.{value, bound, boxTotal, boxReduced}
 use Rattle.meaning.specs.Recovery.{every, accepts, answer}
+use Rattle.meaning.specs.Sameness.{Form, sameForms}
 use Rattle.meaning.specs.Replies.{Reply, accepted, refused}
 use Rattle.meaning.specs.Settings.{widthFits, settingsNumber, limitedNumber, callNumber, first}
 
@@ -45,29 +46,15 @@ validReply total w support ds c =
     reply (callNumber false total true support ds (eqb (length c) (cells ds)))
     (truth (widthFits w && every (cells ds) (λ n. ltb (at c n) (bound w (digits ds n)))))
 
--- a form: settings and coefficients
-pub record Form : Type 0 where
-  pub total : ℕ
-  pub width : ℕ
-  pub support : List ℕ
-  pub degrees : List ℕ
-  pub coefficients : List ℕ
-
+-- settings and length of a form
 abbrev pub formNumber : Form → ℕ
 formNumber f =
     callNumber false (f .total) (widthFits (f .width)) (f .support) (f .degrees) (eqb (length (f .coefficients)) (cells (f .degrees)))
 
--- sameness: the first form is checked, then the second; a yes exactly when total, width, support in order, degrees and coefficients are equal
+-- sameness: the first form is checked, then the second; a yes exactly when the test of sameness says so
 unfoldable pub sameReply : Form → Form → Reply
-unfolding callNumber sameList
-sameReply f g =
-    reply (first (formNumber f) (formNumber g))
-    (truth
-    (eqb (f .total) (g .total)
-    && eqb (f .width) (g .width)
-    && sameList (f .support) (g .support)
-    && sameList (f .degrees) (g .degrees)
-    && sameList (f .coefficients) (g .coefficients)))
+unfolding callNumber sameForms
+sameReply f g = reply (first (formNumber f) (formNumber g)) (truth (sameForms f g))
 
 -- the value at a point, with a coordinate for each support variable
 unfoldable pub valueReply : ℕ → ℕ → List ℕ → List ℕ → List ℕ → List ℕ → Reply

@@ -1,19 +1,18 @@
 -- What the calls answer, from what is known of settings and lengths: each has the same three cases, settings that are turned down, a wrong length, and the
 -- accepted call.
-use mathlib.Core.Path.{_≡_, refl, sym, _∙_, ap}
-use mathlib.Core.Bool.{Bool, true, false, _&&_, and-false}
+use mathlib.Core.Path.{_≡_, sym, _∙_, ap}
+use mathlib.Core.Bool.{Bool, true, false, _&&_}
 use mathlib.Core.List.{List, [], _∷_}
-use Prim.Native.Nat.{ℕ, zero, suc, _^_, _<_}
+use Prim.Native.Nat.{ℕ, _^_}
 use lib.Dec.{eqb}
 use lib.ListN.{length}
 use Rattle.meaning.specs.Boxes.{cells}
 use Rattle.meaning.specs.Values.{value, bound, boxTotal, boxReduced}
 use Rattle.meaning.specs.Recovery.{every}
 use Rattle.meaning.specs.Replies.{Reply, accepted, refused}
-use Rattle.meaning.specs.Settings.{tableLimit, widthFits, callNumber, first}
-use Rattle.meaning.specs.Calls.{reply, truth, Form, formNumber, sameList, left}
-use Rattle.meaning.specs.Calls.{validReply, valueReply, sameReply, sumNumber, sumLeft, reduceNumber, reduceLeft}
-use Rattle.settings.specs.Causes.{passes}
+use Rattle.meaning.specs.Settings.{widthFits, callNumber}
+use Rattle.meaning.specs.Calls.{truth, left}
+use Rattle.meaning.specs.Calls.{validReply, valueReply, sumNumber, sumLeft, reduceNumber, reduceLeft}
 use Rattle.box_rows.specs.Bounds.{isBelow}
 use Rattle.demand3.specs.Settings.{CallPasses}
 use Rattle.demand3.specs.Promises.{Valued, Judged, Summed, Reduced}
@@ -21,7 +20,6 @@ use Rattle.demand3.specs.BoxCalls.{table-valued, judged, summed, reduced}
 use Rattle.demand3.specs.Also.{also, also₂}
 use Rattle.answers.specs.declared.Refusal.{Refusal}
 use Rattle.answers.specs.Said.{code}
-use Rattle.answers.specs.Laws.{reply-code, first-code}
 use Rattle.settings.specs.Settled.{Settled, Unsettled, unsettled-call, turned-reply, turned-left, settled-number, length-reply, length-left, accepted-reply, accepted-left}
 
 -- ---- the value
@@ -147,57 +145,3 @@ module _ (w : ℕ) (c : List ℕ) {total : ℕ} {support ds : List ℕ} where
         → ReduceSaid total w support ds c 0 t
     unfolding reduceNumber reduceLeft
     reduce-accepted e q = also₂ (reduced total w support ds c) (table-accepted (eqb (length c) (cells ds)) (boxReduced (bound w) ds c) c s e q)
-
--- ---- sameness
-
--- the test that two forms are equal
-abbrev pub sameForms : Form → Form → Bool
-sameForms f g =
-    eqb (f .total) (g .total)
-    && eqb (f .width) (g .width)
-    && sameList (f .support) (g .support)
-    && sameList (f .degrees) (g .degrees)
-    && sameList (f .coefficients) (g .coefficients)
-
-module _ (f g : Form) where
-  pub same-first : (r : Refusal) → code r ≡ formNumber f → refused (code r) ≡ sameReply f g
-  unfolding sameReply
-  same-first r e = reply-code r (truth (sameForms f g)) (first-code r (formNumber g) (sym e))
-
-  module _ (p : _≡_ {A = ℕ} 0 (formNumber f)) where
-    pub same-second : (r : Refusal) → code r ≡ formNumber g → refused (code r) ≡ sameReply f g
-    unfolding sameReply
-    same-second r e = reply-code r (truth (sameForms f g)) (ap (λ (n : ℕ). first n (formNumber g)) (sym p) ∙ sym e)
-
-    pub same-accepted : _≡_ {A = ℕ} 0 (formNumber g) → (b : Bool) → sameForms f g ≡ b → accepted (truth b) ≡ sameReply f g
-    unfolding sameReply
-    same-accepted q b e =
-        ap (λ (t : Bool). accepted (truth t)) (sym e)
-        ∙ ap (λ (n : ℕ). reply n (truth (sameForms f g))) (q ∙ ap (λ (n : ℕ). first n (formNumber g)) p)
-
-    -- a form that passes has a variable
-    pub form-filled : 0 < length (f .support)
-    unfolding callNumber
-    form-filled =
-        passes tableLimit false (f .total) (widthFits (f .width)) (f .support) (f .degrees) (settings-pass _ _ (sym p)) .not-empty
-      where
-        settings-pass : (n k : ℕ) → first n k ≡ 0 → n ≡ 0
-        settings-pass zero k e = refl
-        settings-pass (suc n) k e = e
-
--- two forms of which one part differs
-module _ (f g : Form) where
-  pub totals-differ : eqb (f .total) (g .total) ≡ false → sameForms f g ≡ false
-  totals-differ e = simp e
-
-  pub widths-differ : eqb (f .width) (g .width) ≡ false → sameForms f g ≡ false
-  widths-differ e = simp (e, and-false)
-
-  pub supports-differ : sameList (f .support) (g .support) ≡ false → sameForms f g ≡ false
-  supports-differ e = simp (e, and-false)
-
-  pub degrees-differ : sameList (f .degrees) (g .degrees) ≡ false → sameForms f g ≡ false
-  degrees-differ e = simp (e, and-false)
-
-  pub coefficients-differ : sameList (f .coefficients) (g .coefficients) ≡ false → sameForms f g ≡ false
-  coefficients-differ e = simp (e, and-false)

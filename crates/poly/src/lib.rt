@@ -1,14 +1,13 @@
-// Boxes of coefficients: validity, sameness, value at a point, sum.
+// Boxes of coefficients: validity, value at a point, sum, reduction.
 ghost use mathlib.Core.Path.{_≡_};
 ghost use mathlib.Core.Bool.{true, false};
 ghost use mathlib.Core.List.{[], _∷_};
 ghost use lib.ListN.{length};
 ghost use Rattle.meaning.specs.Settings.{cube, widthFits};
-ghost use Rattle.meaning.specs.Calls.{validReply, sameReply, sameList, valueReply, sumNumber, sumLeft, reduceNumber, reduceLeft};
+ghost use Rattle.meaning.specs.Calls.{validReply, valueReply, sumNumber, sumLeft, reduceNumber, reduceLeft};
 ghost use Rattle.demand3.specs.Settings.{CallPasses};
 ghost use Rattle.demand3.specs.Promises.{Valued, Judged, Summed, Reduced};
 ghost use Rattle.answers.specs.Said.{said, saidNumber, saidTruth};
-ghost use Rattle.settings.specs.Forms.{cubeForm};
 
 mod cells;
 
@@ -120,70 +119,6 @@ pub fn sum(
             Outcome::Accepted
         }
     }
-}
-
-// Whether two lists are equal.
-fn same_list(a: &[u64], b: &[u64]) -> bool
-    ensures { λ r. ⌜ r ≡ sameList (now (a .entry)) (now (b .entry)) ⌝ }
-{
-    if a.len() != b.len() {
-        return false;
-    }
-    let mut i = 0;
-    while i < a.len() {
-        if a[i] != b[i] {
-            return false;
-        }
-        i += 1;
-    }
-    true
-}
-
-// Whether two forms are equal in total, width, support in order, degree and coefficients. The first is checked, then the second; each is refused for
-// 1, 2, 3, 5, 7, 8, and 9 where there is not one coefficient for each cell. Nothing is altered.
-pub fn same(
-    coeffs1: &[u64],
-    support1: &[u64],
-    total1: u32,
-    bitwidth1: u32,
-    max_degree1: u8,
-    coeffs2: &[u64],
-    support2: &[u64],
-    total2: u32,
-    bitwidth2: u32,
-    max_degree2: u8,
-) -> Truth
-    ensures { λ r. ⌜ saidTruth r ≡ sameReply (cubeForm total1 bitwidth1 (now (support1 .entry)) «max_degree1» (now (coeffs1 .entry)))
-        (cubeForm total2 bitwidth2 (now (support2 .entry)) «max_degree2» (now (coeffs2 .entry))) ⌝ }
-{
-    match settings::check_form(coeffs1, support1, total1, bitwidth1, max_degree1) {
-        Outcome::Refused(refusal) => {
-            return Truth::Refused(refusal);
-        }
-        Outcome::Accepted => {}
-    }
-    match settings::check_form(coeffs2, support2, total2, bitwidth2, max_degree2) {
-        Outcome::Refused(refusal) => {
-            return Truth::Refused(refusal);
-        }
-        Outcome::Accepted => {}
-    }
-    if total1 != total2 {
-        return Truth::No;
-    }
-    if bitwidth1 != bitwidth2 {
-        return Truth::No;
-    }
-    if !same_list(support1, support2) {
-        return Truth::No;
-    }
-    if max_degree1 != max_degree2 {
-        return Truth::No;
-    }
-    if same_list(coeffs1, coeffs2) {
-        return Truth::Yes;
-    }
-    Truth::No
 }
 
 // Takes each coefficient of a box modulo its bound 2^(bitwidth - q), in place: the polynomial in falling factorials keeps its value, modulo 2^bitwidth, at

@@ -1,8 +1,8 @@
 -- How many subtractions recovery makes: a cell takes part in as many passes along a variable as its coordinate says, so that twice their number is the sum
 -- over the variables of the cells times the own degree.
-use mathlib.Core.Path.{_≡_, refl, sym, ap, ap₂, _∙_}
+use mathlib.Core.Path.{_≡_, refl, sym, ap, _∙_}
 use mathlib.Core.List.{List, [], _∷_}
-use Prim.Native.Nat.{ℕ, zero, suc, _+_, _*_, _/_, _≤_, _<_}
+use Prim.Native.Nat.{ℕ, zero, suc, _*_, _/_, _≤_}
 use native.Mathlib.Nat.{le-of-suc-le-suc, zero-lt-suc, le-trans, le-of-eq}
 use native.Mathlib.Omega.{arith}
 use borrow.Author.Tests.{le-leb, lt-leb}
@@ -10,11 +10,11 @@ use lib.Dec.{leb, leb·suc-suc}
 use lib.ListN.{length, replicate, length-replicate, getD-replicate}
 use Rattle.meaning.specs.Tables.{at}
 use Rattle.meaning.specs.Sums.{sum}
-use Rattle.meaning.specs.Boxes.{cells, digits, boxSum, Within, none, next}
+use Rattle.meaning.specs.Boxes.{cells, boxSum}
 use Rattle.meaning.specs.Calls.{truth}
 use Rattle.meaning.specs.Counts.{passSubtractions, variableSubtractions, subtractions}
 use Rattle.theory.specs.Sums.{sum-last, sum-eq, sum-zero, sum-mul-left}
-use Rattle.theory.specs.Boxes.{boxSum-eq, boxSum-eq-sum, sum-boxSum}
+use Rattle.theory.specs.Boxes.{within-at, boxSum-eq, boxSum-eq-sum, sum-boxSum}
 
 -- of the passes 1 to d, a coordinate e is reached by e
 passes-reached : (d e : ℕ) → e ≤ d → sum d (λ p. truth (leb (suc p) e)) ≡ e
@@ -27,19 +27,13 @@ passes-reached (suc d) (suc e) h =
     sum-eq d (λ p l. ap truth (leb·suc-suc (suc p) e)) ∙ passes-reached d e (le-of-suc-le-suc h) in
     omega (arith, first, rest)
 
--- a coordinate is at most its variable's degree
-coordinate-le : {ds es : List ℕ} → Within ds es → (i : ℕ) → at es i ≤ at ds i
-coordinate-le none i = omega arith
-coordinate-le (next h w) zero = h
-coordinate-le (next h w) (suc i) = coordinate-le w i
-
 -- those along a variable are the sum of its coordinates
 variable-coordinates : (ds : List ℕ) (i : ℕ) → variableSubtractions ds i ≡ boxSum ds (λ es. at es i)
 unfolding variableSubtractions passSubtractions
 variable-coordinates ds i =
     sum-eq (at ds i) (λ p l. sym (boxSum-eq-sum ds (λ es. truth (leb (suc p) (at es i)))))
     ∙ sum-boxSum (at ds i) ds (λ p es. truth (leb (suc p) (at es i)))
-    ∙ boxSum-eq ds (λ es w. passes-reached (at ds i) (at es i) (coordinate-le w i))
+    ∙ boxSum-eq ds (λ es w. passes-reached (at ds i) (at es i) (within-at w i))
 
 -- one number, over a range and over a box
 sum-constant : (n c : ℕ) → sum n (λ i. c) ≡ n * c

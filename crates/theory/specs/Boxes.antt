@@ -1,12 +1,13 @@
 -- Laws of boxes: cell numbers and exponent lists correspond, and a sum over a box is a flat sum over its cells.
 -- Every law is an induction over the variables. A cell number is `cell ds es * suc d + e`, so each step is division by suc d with remainder.
 use mathlib.Core.Path.{_≡_, refl, sym, ap, ap₂, _∙_}
-use Prim.Native.Nat.{ℕ, zero, suc, _+_, _*_, _/_, _%_, _^_, _<_, suc-le-suc}
+use Prim.Native.Nat.{ℕ, zero, suc, _+_, _*_, _/_, _%_, _^_, _≤_, _<_, suc-le-suc}
 use mathlib.Core.List.{List, [], _∷_}
-use native.Mathlib.Nat.{zero-lt-suc, le-of-suc-le-suc, mod-lt, mul-pos, div-add-mod', div-lt-iff-lt-mul, pow-zero, pow-suc}
+use native.Mathlib.Nat.{zero-lt-suc, le-of-suc-le-suc, le-refl, mod-lt, mul-pos, div-add-mod', div-lt-iff-lt-mul, pow-zero, pow-suc}
 use native.Mathlib.Omega.{arith}
 use lib.Arith.{digits-lt, digits-div, digits-mod}
 use lib.ListN.{length, replicate}
+use Rattle.meaning.specs.Tables.{at}
 use Rattle.meaning.specs.Sums.{sum}
 use Rattle.meaning.specs.Boxes.{cells, digits, cell, Within, none, next, boxSum}
 use Rattle.theory.specs.Congruence.{Cong}
@@ -34,6 +35,12 @@ digits-within (d ∷ ds) n = next (le-of-suc-le-suc (mod-lt n (zero-lt-suc d))) 
 pub length-within : {ds es : List ℕ} → Within ds es → length es ≡ length ds
 length-within none = refl
 length-within (next p w) = ap suc (length-within w)
+
+-- and none is above its degree
+pub within-at : {ds es : List ℕ} → Within ds es → (i : ℕ) → at es i ≤ at ds i
+within-at none i = le-refl 0
+within-at (next p w) zero = p
+within-at (next p w) (suc i) = within-at w i
 
 pub length-digits : (ds : List ℕ) (n : ℕ) → length (digits ds n) ≡ length ds
 length-digits ds n = length-within (digits-within ds n)

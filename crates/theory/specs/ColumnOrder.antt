@@ -1,5 +1,5 @@
 -- The order of the fit's columns is a strict order, and of two different exponent lists of one length one comes before the other.
-use mathlib.Core.Path.{_≡_, refl, sym, ap, ap₂, subst, _∙_}
+use mathlib.Core.Path.{_≡_, refl, sym, ap, ap₂, _∙_}
 use mathlib.Core.Logic.{_↔_, _⊎_, inl, inr, ⊎-elim}
 use mathlib.Core.Bool.{Bool, true, false, _&&_, _||_}
 use Prim.Native.Nat.{ℕ, _+_, _≤_, _<_}
@@ -9,7 +9,6 @@ use native.Mathlib.Decide.{decLe}
 use native.Mathlib.Omega.{arith}
 use lib.Dec.{T, ltb, ltb→lt, lt→ltb, eqb, eqb→eq, eqb-refl}
 use lib.ListN.{length}
-use Rattle.meaning.specs.Calls.{sameList}
 use Rattle.meaning.specs.Fit.{total, lexBefore, before}
 use Rattle.theory.specs.Every.{and-iff}
 
@@ -146,21 +145,3 @@ before-cons e es fs t = then-iff (e + total es) (e + total fs) _ .1 (go (then-if
     go : Then (total es) (total fs) (T (lexBefore es fs)) → Then (e + total es) (e + total fs) (T (lexBefore (e ∷ es) (e ∷ fs)))
     go (lower h) = lower (omega arith)
     go (level d u) = level (ap (e +_) d) (then-iff e e (lexBefore es fs) .1 (level refl u))
-
--- ---- sameness of lists
-
-pub sameList-iff : (es fs : List ℕ) → T (sameList es fs) ↔ (es ≡ fs)
-unfolding sameList
-sameList-iff es fs = (there es fs, λ e. subst (λ (gs : List ℕ). T (sameList es gs)) e (same es))
-  where
-    same : (es : List ℕ) → T (sameList es es)
-    same [] = tt
-    same (e ∷ es) = and-iff (eqb e e) (sameList es es) .1 (eqb-refl e, same es)
-
-    there : (es fs : List ℕ) → T (sameList es fs) → es ≡ fs
-    there [] [] t = refl
-    there [] (f ∷ fs) t = absurd t
-    there (e ∷ es) [] t = absurd t
-    there (e ∷ es) (f ∷ fs) t =
-        let b = and-iff (eqb e f) (sameList es fs) .0 t in
-        ap₂ _∷_ (eqb→eq e f (b .0)) (there es fs (b .1))

@@ -5,7 +5,6 @@ use mathlib.Core.Bool.{Bool, true, false, cond}
 use Prim.Native.Nat.{ℕ, zero, suc, _+_, _*_, _<_}
 use mathlib.Core.List.{List, [], _∷_}
 use native.Mathlib.Nat.{not-suc-le-zero, le-of-suc-le-suc, mul-zero, add-zero, zero-add, mul-add}
-use lib.Dec.{T}
 use lib.ListN.{length, getD}
 use Rattle.meaning.specs.Sums.{sum}
 use Rattle.meaning.specs.Boxes.{cells, digits, cell, Within}
@@ -13,7 +12,7 @@ use Rattle.meaning.specs.Calls.{sameList}
 use Rattle.meaning.specs.Fit.{valueOf}
 use Rattle.theory.specs.Sums.{sum-eq, sum-add, sum-zero, sum-one}
 use Rattle.theory.specs.Boxes.{cell-lt, cell-digits, digits-cell}
-use Rattle.theory.specs.ColumnOrder.{sameList-iff}
+use Rattle.theory.specs.EqualLists.{sameList-iff, same-true, same-false}
 use Rattle.theory.specs.Columns.{In, here, there, Ordered, ordered-none, ordered-more, not-in-after, in-getD}
 
 -- the value of the first list, and of any other
@@ -24,21 +23,6 @@ valueOf-first f fs x es e = ap (λ (b : Bool). cond b (x 0) (valueOf fs (λ i. x
 valueOf-later : (f : List ℕ) (fs : List (List ℕ)) (x : ℕ → ℕ) (es : List ℕ) → sameList f es ≡ false → valueOf (f ∷ fs) x es ≡ valueOf fs (λ i. x (suc i)) es
 unfolding valueOf
 valueOf-later f fs x es e = ap (λ (b : Bool). cond b (x 0) (valueOf fs (λ i. x (suc i)) es)) e
-
--- lists are the same, or the test says that they are not
-same-true : (f es : List ℕ) → f ≡ es → sameList f es ≡ true
-same-true f es e = go (sameList f es) (sameList-iff f es .1 e)
-  where
-    go : (b : Bool) → T b → b ≡ true
-    go true t = refl
-    go false t = absurd t
-
-same-false : (f es : List ℕ) → (f ≡ es → ⊥) → sameList f es ≡ false
-same-false f es h = go (sameList f es) (λ t. h (sameList-iff f es .0 t))
-  where
-    go : (b : Bool) → (T b → ⊥) → b ≡ false
-    go true t = absurd (t tt)
-    go false t = refl
 
 -- a list that is no column has the value 0
 pub valueOf-absent : (fs : List (List ℕ)) (x : ℕ → ℕ) (es : List ℕ) → (In es fs → ⊥) → valueOf fs x es ≡ 0

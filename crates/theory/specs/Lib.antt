@@ -12,6 +12,7 @@ pub mod Largest
 pub mod Binomials
 pub mod Newton
 pub mod Boxes
+pub mod CountedCells
 pub mod Evaluation
 pub mod OneCell
 pub mod Widths
@@ -19,6 +20,7 @@ pub mod Recovery
 pub mod Every
 pub mod Integers
 pub mod StirlingNumbers
+pub mod EqualLists
 pub mod Values
 pub mod DifferenceBounds
 pub mod GridRecovery
@@ -31,6 +33,9 @@ pub mod CutPolynomials
 pub mod DecidingGrids
 pub mod OpenGrids
 pub mod ConversionLaws
+pub mod Scattered
+pub mod SpreadBoxes
+pub mod SameForms
 pub mod LastVariable
 pub mod AcceptedCalls
 pub mod Trailing

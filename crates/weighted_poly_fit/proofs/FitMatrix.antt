@@ -2,27 +2,22 @@
 use mathlib.Core.Path.{_≡_, sym, ap, _∙_}
 use mathlib.Core.Bool.{Bool, cond}
 use mathlib.Core.List.{List, []}
-use Prim.Native.Nat.{ℕ, zero, suc, _*_, _%_, _^_, _≤_, _<_}
-use native.Mathlib.Nat.{not-suc-le-zero, le-of-suc-le-suc, lt-of-le-of-lt}
+use Prim.Native.Nat.{ℕ, _*_, _%_, _^_, _<_}
+use native.Mathlib.Nat.{lt-of-le-of-lt}
 use borrow.Author.Tests.{lt-ltb}
 use lib.ListN.{length, take, drop, getD}
 use Rattle.meaning.specs.Tables.{at}
 use Rattle.meaning.specs.Factorials.{falling}
-use Rattle.meaning.specs.Boxes.{digits, Within, none, next}
+use Rattle.meaning.specs.Boxes.{digits, Within}
 use Rattle.meaning.specs.Values.{product}
 use Rattle.meaning.specs.Elimination.{joined}
 use Rattle.meaning.specs.Fit.{columns, fitSystem}
-use Rattle.theory.specs.Boxes.{length-within}
+use Rattle.theory.specs.Boxes.{length-within, within-at}
 use Rattle.theory.specs.Columns.{in-columns-iff, in-getD}
 use Rattle.theory.specs.MatrixTables.{places, at-joined}
 use Rattle.weighted_poly_fit.specs.Powers.{weighed}
 use Rattle.weighted_poly_fit.proofs.Listed.{length-columns-joined}
 use Rattle.weighted_poly_fit.proofs.Coordinates.{part-joined}
-
-within-at : {ds es : List ℕ} → Within ds es → (c : ℕ) → c < length ds → at es c ≤ at ds c
-within-at none c h = absurd (not-suc-le-zero h)
-within-at (next l w) zero h = l
-within-at (next l w) (suc c) h = within-at w c (le-of-suc-le-suc h)
 
 module _ (ds : List ℕ) (most : ℕ) where
   column-within : (i : ℕ) → i < length (columns ds most) → Within ds (getD (columns ds most) i [])
@@ -37,7 +32,7 @@ module _ (ds : List ℕ) (most : ℕ) where
   columns-small size f n h =
       places (length (columns ds most)) (length ds) (λ m. at (joined (columns ds most)) m < size)
       (λ i c p q.
-      rw (at-joined (length ds) (columns ds most) column-length i c p q) (lt-of-le-of-lt (within-at (column-within i p) c q) (f c q)))
+      rw (at-joined (length ds) (columns ds most) column-length i c p q) (lt-of-le-of-lt (within-at (column-within i p) c) (f c q)))
       n (rw (length-columns-joined ds most) at h)
 
   module _ (w : ℕ) (gs weights targets : List ℕ) (same : length gs ≡ length ds) where

@@ -8,7 +8,7 @@ use mathlib.Core.Path.{_≡_, _∙_, sym}
 use lib.ListN.{length, drop}
 use native.Mathlib.Omega.{arith}
 use Rattle.meaning.specs.Boxes.{cells}
-use Rattle.settings.proofs.Counted.{counted-next, counted-end, counted-le}
+use Rattle.theory.specs.CountedCells.{counted-next, counted-end, counted-le}
 use Rattle.settings.proofs.count_cells.Tie as tie
 
 abbrev Inv-loop : tie.InvT-loop

@@ -1,2 +1,0 @@
--- The one module: cells counted variable by variable.
-pub mod Counted
