@@ -172,7 +172,8 @@ fn show(group: &Group, which: &str, failure: &Failure) {
     println!("oracle: {}: {which}: {}: {difference}", group.name, group.show(&failure.case));
 }
 
-/// Plants wrong answers in each group in turn, in every part of its answers; all must be caught.
+/// Plants wrong answers in each group in turn, in every part of its answers, each in one of the first
+/// 200,000 cases that have such a part; all must be caught.
 fn selftest(groups: &[(&Group, bool)], seed: u64, cases: u64) -> bool {
     let (mut planted, mut caught) = (0, 0);
     for (group, here) in groups {
@@ -188,7 +189,7 @@ fn selftest(groups: &[(&Group, bool)], seed: u64, cases: u64) -> bool {
         let (mut here, mut found) = (0, 0);
         for (part, &filled) in clean.filled.iter().enumerate() {
             let salt = mix(seed ^ mix(part as u64));
-            let plant = Plant::Once { part, nth: mix(salt) % filled.max(1), salt };
+            let plant = Plant::Once { part, nth: mix(salt) % filled.clamp(1, 200_000), salt };
             here += 1;
             found += u64::from(judge(group, seed, cases, plant).failure.is_some());
         }
