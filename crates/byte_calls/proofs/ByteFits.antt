@@ -18,7 +18,7 @@ use Rattle.answers.specs.declared.Refusal.{Refusal}
 use Rattle.answers.specs.declared.Number.{Number}
 use Rattle.answers.specs.Said.{code, said}
 use Rattle.answers.specs.Laws.{code-suc, number-accepted, value-accepted, number-refused, reply-code, first-code, left-code}
-use Rattle.weighted_poly_fit.specs.Sizes.{fitSettings, columnsReply}
+use Rattle.room.specs.Sizes.{fitSettings, columnsReply}
 use Rattle.byte_calls.specs.Bytes.{decoded, encoded}
 use Rattle.byte_calls.specs.ByteLaws.{length-decoded}
 use Rattle.byte_calls.specs.Calls.{holds, boxNumber, fitHeld, fitBytesCause, fitBytesReply, fitBytesLeft}

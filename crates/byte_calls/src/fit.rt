@@ -53,7 +53,7 @@ fn fit_sized(
     if (settings::BYTE_LIMIT as u64) < entries {
         return Number::Refused(Refusal::TooLarge);
     }
-    let degree = weighted_poly_fit::fit::lesser_degree(max_degree, grid_degree);
+    let degree = room::sizes::lesser_degree(max_degree, grid_degree);
     let degrees = [degree; 20];
     let known = count as usize;
     let cells = settings::count_cells(&degrees[..known], settings::BYTE_LIMIT);

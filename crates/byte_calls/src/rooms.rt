@@ -5,7 +5,7 @@ ghost use lib.ListN.{length};
 ghost use Rattle.meaning.specs.Settings.{byteLimit};
 ghost use Rattle.meaning.specs.Fit.{fitOf, fitReply, fitOut};
 ghost use Rattle.answers.specs.Said.{said};
-ghost use Rattle.weighted_poly_fit.specs.Sizes.{fitSettings, columnsReply};
+ghost use Rattle.room.specs.Sizes.{fitSettings, columnsReply};
 ghost use Rattle.byte_calls.specs.Bytes.{decoded, encoded};
 ghost use Rattle.byte_calls.specs.TableLaws.{zeros};
 use crate::codec;
@@ -24,7 +24,7 @@ pub(crate) fn columns_in(
     ensures { λ r. ⌜ said r ≡ columnsReply (fitSettings total width (decoded (now (support .entry))) «max_degree» «grid_degree») ⌝ }
 {
     codec::decode(support, indices);
-    weighted_poly_fit::sizes::fit_columns(indices, total, width, max_degree, grid_degree)
+    room::sizes::fit_columns(indices, total, width, max_degree, grid_degree)
 }
 
 // The fit with room lent for the indices, the weights, the targets, the system and the coefficients.

@@ -5,12 +5,12 @@ ghost use Rattle.meaning.specs.Boxes.{cells};
 ghost use Rattle.meaning.specs.Settings.{cube};
 ghost use Rattle.answers.specs.Said.{said, saidNumber};
 ghost use Rattle.room.specs.Told.{roomSaid};
-ghost use Rattle.weighted_poly_fit.specs.Sizes.{fitRoomSaid};
+ghost use Rattle.room.specs.Sizes.{fitRoomSaid};
 ghost use Rattle.calls_together.specs.Rooms.{RecoveryKeeps, FitKeeps};
 use answers::Number;
 use answers::Outcome;
 use room::RecoveryRoom;
-use weighted_poly_fit::sizes::FitRoom;
+use room::sizes::FitRoom;
 
 // What the room of recovery and recovery said.
 struct RecoveryPair {
@@ -66,7 +66,7 @@ fn fit_in_room(
     ensures { λ r. ⌜ FitKeeps (fitRoomSaid (r .room)) (cells (cube (now (support .entry)) (min «max_degree» «grid_degree»))) (length (now (weights .entry)))
         (length (now (targets .entry))) (length (now (matrix .entry))) (length (now (right .entry))) (length (now (out .entry))) (said (r .call) .number) ⌝ }
 {
-    let asked = weighted_poly_fit::sizes::fit_room(support, total, width, max_degree, grid_degree);
+    let asked = room::sizes::fit_room(support, total, width, max_degree, grid_degree);
     let made = weighted_poly_fit::fit::recover_weighted_poly(
         weights,
         targets,

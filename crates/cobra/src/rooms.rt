@@ -1,14 +1,14 @@
-// What recovery and the fit need, from their settings alone. What the calls count is said in `room` and `weighted_poly_fit`; every count is 0 beside a refusal.
+// What recovery and the fit need, from their settings alone. What the calls count is said in `room`; every count is 0 beside a refusal.
 ghost use mathlib.Core.Path.{_≡_};
 ghost use lib.ListN.{length};
 ghost use Rattle.meaning.specs.Settings.{cube};
 ghost use Rattle.meaning.specs.Counts.{recoveryRoom, fitRoom};
 ghost use Rattle.room.specs.Told.{roomTold};
 ghost use Rattle.room.specs.Promises.{Costs};
-ghost use Rattle.weighted_poly_fit.specs.Sizes.{fitSettings, fitRoomTold};
-ghost use Rattle.weighted_poly_fit.specs.Costs.{FitCosts};
+ghost use Rattle.room.specs.Sizes.{fitSettings, fitRoomTold};
+ghost use Rattle.room.specs.FitPromises.{FitCosts};
 use room::RecoveryRoom;
-use weighted_poly_fit::sizes::FitRoom;
+use room::sizes::FitRoom;
 
 // The cells of a grid, and the subtractions of its recovery.
 #[no_mangle]
@@ -55,7 +55,7 @@ pub extern "C" fn cobra_fit_room(
     ensures says { λ r. ⌜ fitRoomTold r (now (rows .exit)) (now (columns .exit)) (now (entries .exit)) ≡ fitRoom (fitSettings total width (now (support .entry)) «max_degree» «grid_degree») ⌝ }
     ensures costs { λ r. ⌜ FitCosts (length (now (support .entry))) «max_degree» «grid_degree» (fitRoomTold r (now (rows .exit)) (now (columns .exit)) (now (entries .exit))) ⌝ }
 {
-    match weighted_poly_fit::sizes::fit_room(support, total, width, max_degree, grid_degree) {
+    match room::sizes::fit_room(support, total, width, max_degree, grid_degree) {
         FitRoom::Counts {
             rows: points,
             columns: lists,

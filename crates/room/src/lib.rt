@@ -1,4 +1,4 @@
-// What recovery needs, from its settings alone, before a value is surveyed: its cells and its subtractions.
+// What recovery needs, from its settings alone, before a value is surveyed: its cells and its subtractions. What a fit needs is said in `sizes`.
 ghost use mathlib.Core.Path.{_≡_};
 ghost use Prim.Native.Nat.{_≤_};
 ghost use lib.ListN.{length};
@@ -7,6 +7,10 @@ ghost use Rattle.meaning.specs.Settings.{cube};
 ghost use Rattle.meaning.specs.Counts.{subtractions, recoveryRoom};
 ghost use Rattle.room.specs.Told.{roomSaid};
 ghost use Rattle.room.specs.Promises.{Costs};
+
+mod counts;
+pub mod sizes;
+
 use answers::Number;
 use answers::Refusal;
 

@@ -50,6 +50,8 @@ pub mod BackSubstitution
 pub mod SolverLaws
 pub mod ColumnOrder
 pub mod Columns
+pub mod ColumnListing
+pub mod ColumnCount
 pub mod ColumnValues
 pub mod FitBoxes
 pub mod FitSizes

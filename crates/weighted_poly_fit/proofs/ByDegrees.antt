@@ -9,7 +9,7 @@ use lib.ListN.{length, take, drop, length-append}
 use lib.Seq.{drop-length}
 use Rattle.meaning.specs.Elimination.{joined}
 use Rattle.meaning.specs.Fit.{columns}
-use Rattle.weighted_poly_fit.specs.ColumnListing.{exactly}
+use Rattle.theory.specs.ColumnListing.{exactly}
 use Rattle.weighted_poly_fit.specs.Listing.{pasted, listing, exponentsBefore, Listed}
 use Rattle.weighted_poly_fit.proofs.Pasted.{pasted-none, pasted-more, length-pasted}
 use Rattle.weighted_poly_fit.proofs.Listed.{spread, spread-none, length-spread-le, spread-degree, spread-columns, length-columns-joined}

@@ -20,7 +20,7 @@ use Rattle.answers.specs.Said.{code}
 use Rattle.answers.specs.Laws.{reply-code, first-code, left-code}
 use Rattle.weighted_poly_fit.specs.Fitting.{Answered, Exact, Fitted, fitWith, lengthsCause}
 use Rattle.weighted_poly_fit.specs.Fits.{Called}
-use Rattle.weighted_poly_fit.proofs.ColumnCount.{columns-le-cells}
+use Rattle.theory.specs.ColumnCount.{columns-le-cells}
 
 -- ---- sizes
 

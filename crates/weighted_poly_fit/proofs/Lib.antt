@@ -1,9 +1,6 @@
--- Laws of the fit: the columns listed and counted, the matrix and its entries, the box of the answer, and the call in its parts.
+-- Laws of the fit: the columns listed, the matrix and its entries, the box of the answer, and the call in its parts.
 pub mod Pasted
 pub mod Listed
-pub mod ColumnCount
-pub mod RunningSums
-pub mod SizeLaws
 pub mod Steps
 pub mod ByDegrees
 pub mod Entries

@@ -10,7 +10,7 @@ use Rattle.meaning.specs.Fit.{columns}
 use Rattle.theory.specs.Boxes.{length-within}
 use Rattle.theory.specs.Columns.{in-columns-iff, in-getD}
 use Rattle.theory.specs.MatrixTables.{length-joined}
-use Rattle.weighted_poly_fit.specs.ColumnListing.{blocks, exactly, byDegree, byDegree-eq}
+use Rattle.theory.specs.ColumnListing.{blocks, exactly, byDegree, byDegree-eq}
 use Rattle.weighted_poly_fit.specs.Listing.{listing}
 
 joined-append : (xs ys : List (List ℕ)) → joined (xs ++ ys) ≡ joined xs ++ joined ys

@@ -2,16 +2,15 @@
 use mathlib.Core.Path.{_≡_, refl, sym, ap, ap₂, _∙_}
 use mathlib.Core.List.{List, [], _∷_, _++_}
 use Prim.Native.Nat.{ℕ, suc, _+_, _-_, _≤_, _<_, min, zero-le}
-use native.Mathlib.Nat.{add-zero, suc-ne-zero}
+use native.Mathlib.Nat.{add-zero, suc-ne-zero, le-of-eq}
 use native.Mathlib.Numerals.{add-one}
 use native.Mathlib.Omega.{arith}
 use lib.ListN.{length, take, drop, set, length-append, length-drop, length-set}
-use lib.Seq.{take-suc-set, take-take, take-at, take-length, length-take-le}
+use lib.Seq.{drop-cons, take-suc-set, take-take, take-all, take-at, take-length, length-take-le}
 use Rattle.meaning.specs.Tables.{at}
 use Rattle.weighted_poly_fit.specs.Listing.{pasted, listing, exponentsBefore, Listed}
 use Rattle.weighted_poly_fit.proofs.Pasted.{pasted-none, pasted-more, length-pasted}
 use Rattle.weighted_poly_fit.proofs.Listed.{spread, headed, spread-none, spread-headed, length-spread-le, listing-cons, listing-none, listing-rest}
-use Rattle.weighted_poly_fit.proofs.ColumnCount.{first-rest, rest-whole}
 
 -- ---- no variable is left
 
@@ -46,6 +45,15 @@ module _ (t : List ℕ) (a : ℕ) (current ds : List ℕ) (none : length ds ≡ 
       nothing =
           let e : left ≡ suc (left - 1) = omega arith in
           ap₂ (λ (l : List ℕ) (n : ℕ). listing (exponentsBefore current ds) l n) empty e ∙ listing-rest (exponentsBefore current ds) (left - 1)
+
+-- ---- the first variable and the others
+
+first-rest : (ds : List ℕ) → 0 < length ds → ds ≡ at ds 0 ∷ drop 1 ds
+first-rest ds h = drop-cons ds 0 0 h
+
+-- the others, as a part that is lent
+pub rest-whole : (ds : List ℕ) → take (length ds - 1) (drop 1 ds) ≡ drop 1 ds
+rest-whole ds = take-all (length ds - 1) (drop 1 ds) (le-of-eq (length-drop 1 ds))
 
 -- ---- the exponents of the first variable
 

@@ -4,7 +4,7 @@ use mathlib.Core.List.{List, _++_, map}
 use Prim.Native.Nat.{ℕ, _+_, _-_}
 use lib.ListN.{length, take, drop}
 use Rattle.meaning.specs.Elimination.{joined}
-use Rattle.weighted_poly_fit.specs.ColumnListing.{exactly}
+use Rattle.theory.specs.ColumnListing.{exactly}
 
 -- the table t with xs from place a on
 abbrev pub pasted : List ℕ → ℕ → List ℕ → List ℕ

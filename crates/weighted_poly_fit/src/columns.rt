@@ -1,18 +1,12 @@
 // The columns of the fit: the exponent lists with no exponent above its variable's degree and a bounded sum, by total degree, ties in lexicographic
 // order.
 ghost use mathlib.Core.Path.{_≡_};
-ghost use Prim.Native.Nat.{_+_, _*_, _≤_, min};
+ghost use Prim.Native.Nat.{_+_, _*_, _≤_};
 ghost use lib.ListN.{length};
 ghost use Rattle.meaning.specs.Elimination.{joined};
 ghost use Rattle.meaning.specs.Fit.{columns};
 ghost use Rattle.weighted_poly_fit.specs.Listing.{pasted, listing, exponentsBefore, Listed};
-
-// The smaller of the two.
-pub(crate) fn lesser(a: usize, b: usize) -> usize
-    ensures { λ r. ⌜ r ≡ min a b ⌝ }
-{
-    if a < b { a } else { b }
-}
+use room::sizes;
 
 // Copies a list of exponents into the table, from place `at` on.
 fn write_list(table: &mut [u8], at: usize, list: &[u8])
@@ -48,7 +42,7 @@ fn enumerate_basis_recurse(
         return at;
     }
     let place = current.len() - degrees.len();
-    let highest = lesser(degrees[0] as usize, left);
+    let highest = sizes::lesser(degrees[0] as usize, left);
     let mut next = at;
     let mut e = 0;
     while e <= highest {

@@ -11,18 +11,11 @@ ghost use Rattle.weighted_poly_fit.specs.Fitting.{Shaped, Exact, Fitted,
 ghost use Rattle.weighted_poly_fit.specs.Fits.{Called, Fits};
 ghost use Rattle.answers.specs.Said.{said};
 use crate::rooms;
-use crate::sizes;
-use crate::sizes::FitRoom;
 use crate::systems;
 use answers::Number;
 use answers::Refusal;
-
-// The smaller of two degrees.
-pub fn lesser_degree(a: u8, b: u8) -> u8
-    ensures { λ r. ⌜ r ≡ min a b ⌝ }
-{
-    if a < b { a } else { b }
-}
+use room::sizes;
+use room::sizes::FitRoom;
 
 // A fit whose tables have their exact lengths, with room for a point's powers, for the exponents and for the values of the columns. Matrix and right side
 // end as zeros.
@@ -179,7 +172,7 @@ fn weighted_fit(
             columns,
             entries,
         } => {
-            let degree = lesser_degree(max_degree, grid_degree);
+            let degree = sizes::lesser_degree(max_degree, grid_degree);
             let degrees = [degree; 20];
             let grid = [grid_degree; 20];
             fit_box(

@@ -1,9 +1,7 @@
-// The weighted fit: its columns, its matrix, the system solved, the box of its answer, the call, and its sizes from the settings alone.
+// The weighted fit: its columns, its matrix, the system solved, the box of its answer, and the call. What it needs, from its settings alone, stands in the crate `room`.
 mod answer;
 mod columns;
-mod counts;
 pub mod fit;
 mod matrix;
 mod rooms;
-pub mod sizes;
 mod systems;

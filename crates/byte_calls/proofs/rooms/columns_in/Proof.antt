@@ -4,7 +4,7 @@ use borrow.Author.Needs.{needs}
 use mathlib.Core.Path.{_∙_, ap}
 use mathlib.Core.List.{List}
 use Prim.Native.Nat.{ℕ}
-use Rattle.weighted_poly_fit.specs.Sizes.{fitSettings, columnsReply}
+use Rattle.room.specs.Sizes.{fitSettings, columnsReply}
 use Rattle.byte_calls.proofs.rooms.columns_in.Tie as tie
 
 abbrev start : tie.After-decode → tie.Start

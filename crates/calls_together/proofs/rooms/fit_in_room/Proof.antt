@@ -7,7 +7,7 @@ use Rattle.meaning.specs.Boxes.{cells}
 use Rattle.meaning.specs.Fit.{Fit, fitOf}
 use Rattle.meaning.specs.Counts.{FitRoom, fitRoom}
 use Rattle.answers.specs.Said.{said}
-use Rattle.weighted_poly_fit.specs.Sizes.{fitRoomSaid}
+use Rattle.room.specs.Sizes.{fitRoomSaid}
 use Rattle.calls_together.specs.Rooms.{FitKeeps}
 use Rattle.calls_together.proofs.KeptRooms.{reply-keeps}
 use Rattle.calls_together.proofs.rooms.fit_in_room.Statement.{statement}

@@ -4,8 +4,8 @@ use mathlib.Core.Path.{_≡_, sym, ap, subst, _∙_}
 use Prim.Native.Nat.{ℕ}
 use lib.ListN.{length}
 use Rattle.meaning.specs.Counts.{FitRoom, fitRoom}
-use Rattle.weighted_poly_fit.specs.Sizes.{fitSettings, fitRoomTold, fitRoomSaid}
-use Rattle.weighted_poly_fit.specs.Costs.{FitCosts}
+use Rattle.room.specs.Sizes.{fitSettings, fitRoomTold, fitRoomSaid}
+use Rattle.room.specs.FitPromises.{FitCosts}
 use Rattle.cobra.proofs.rooms.cobra_fit_room.Statement.{statement}
 use Rattle.cobra.proofs.rooms.cobra_fit_room.Tie as tie
 

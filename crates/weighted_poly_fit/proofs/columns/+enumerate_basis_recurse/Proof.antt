@@ -4,14 +4,13 @@ use Prim.Native.Nat.{ℕ, _+_, _-_, _<_}
 use native.Mathlib.Omega.{arith}
 use borrow.Author.Needs.{needs}
 use lib.ListN.{length, length-drop}
-use Rattle.weighted_poly_fit.proofs.ColumnCount.{rest-whole}
-use Rattle.weighted_poly_fit.proofs.Steps.{listing-last, listed-last, listed-nothing, Steps, steps-start, steps-same, steps-place, steps-fits, steps-room, steps-next, steps-done}
+use Rattle.weighted_poly_fit.proofs.Steps.{rest-whole, listing-last, listed-last, listed-nothing, Steps, steps-start, steps-same, steps-place, steps-fits, steps-room, steps-next, steps-done}
 use borrow.Fn.Kinds.{In}
 use borrow.Fn.PlainCycle.{Measures, is, falls, and}
 use Rattle.weighted_poly_fit.proofs.columns.enumerate_basis_recurse.Reads as reads
 use Rattle.weighted_poly_fit.proofs.columns.enumerate_basis_recurse.Kinds as kinds
 use Rattle.weighted_poly_fit.proofs.columns.+enumerate_basis_recurse.Lts-enumerate_basis_recurse as lts
-use Rattle.weighted_poly_fit.proofs.columns.lesser.Reads as lesser-reads
+use Rattle.room.proofs.sizes.lesser.Reads as lesser-reads
 use Rattle.weighted_poly_fit.proofs.columns.write_list.Reads as write-list-reads
 use Rattle.weighted_poly_fit.proofs.columns.+enumerate_basis_recurse.{statement}
 use Rattle.weighted_poly_fit.proofs.columns.+enumerate_basis_recurse.Tie.{close}

@@ -17,11 +17,11 @@ use Rattle.answers.specs.Said.{code}
 use Rattle.theory.specs.Ranges.{width-high}
 use Rattle.settings.specs.Causes.{Passes, passes, settings-cells-le, take-cube}
 use Rattle.theory.specs.FitSizes.{cells-cube-le}
+use Rattle.room.specs.Sizes.{fitRoomSaid}
+use Rattle.room.specs.SizeLaws.{size-parts, Told, told-turned, told-counts}
 use Rattle.weighted_poly_fit.specs.Fitting.{Shaped}
-use Rattle.weighted_poly_fit.specs.Sizes.{fitRoomSaid}
 use Rattle.weighted_poly_fit.proofs.FitCalls.{cube-low, call-settled, call-turned, fitted-degrees}
 use Rattle.weighted_poly_fit.proofs.RoomLaws.{powers-few}
-use Rattle.weighted_poly_fit.proofs.SizeLaws.{Told, told-turned, told-counts, size-parts}
 use Rattle.weighted_poly_fit.proofs.fit.weighted_fit.Statement.{statement}
 use Rattle.weighted_poly_fit.proofs.fit.weighted_fit.Tie as tie
 

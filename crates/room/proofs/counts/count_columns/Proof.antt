@@ -7,9 +7,9 @@ use native.Mathlib.Nat.{suc-ne-zero}
 use native.Mathlib.Omega.{arith}
 use lib.ListN.{length}
 use Rattle.meaning.specs.Fit.{columns}
-use Rattle.weighted_poly_fit.proofs.ColumnCount.{count-none}
-use Rattle.weighted_poly_fit.proofs.counts.count_columns.Statement.{statement}
-use Rattle.weighted_poly_fit.proofs.counts.count_columns.Tie as tie
+use Rattle.theory.specs.ColumnCount.{count-none}
+use Rattle.room.proofs.counts.count_columns.Statement.{statement}
+use Rattle.room.proofs.counts.count_columns.Tie as tie
 
 empty-list : (ds : List ℕ) (most : ℕ) → length ds ≡ 0 → 1 ≡ length (columns ds most)
 empty-list [] most h = sym (count-none most)

@@ -1,52 +1,36 @@
 -- The room of a fit where its settings pass, where they are turned down, and what its counts are.
 use mathlib.Core.Path.{_≡_, refl, sym, ap, ap₂, _∙_}
-use mathlib.Core.Bool.{Bool, true, false, cond}
-use mathlib.Core.List.{List, [], _∷_}
-use Prim.Native.Nat.{ℕ, zero, suc, _*_, _≤_, _<_, min, zero-le}
+use mathlib.Core.Bool.{Bool, false, cond}
+use mathlib.Core.List.{List}
+use Prim.Native.Nat.{ℕ, zero, suc, _≤_, _<_, min, zero-le}
 use native.Mathlib.Nat.{suc-ne-zero, le-trans}
-use borrow.Author.Tests.{lt-ltb, le-ltb, ltb-false}
-use lib.Dec.{ltb}
+use borrow.Author.Tests.{lt-ltb, le-ltb}
 use lib.ListN.{length}
-use Rattle.meaning.specs.Boxes.{cells}
-use Rattle.meaning.specs.Settings.{tableLimit, widthFits, cube, settingsNumber, first}
-use Rattle.meaning.specs.Fit.{Fit, columns, fitRows, fitColumns, fitSettingsNumber}
-use Rattle.meaning.specs.Counts.{FitRoom, fitRoomOf, fitRoom}
+use Rattle.meaning.specs.Settings.{tableLimit, widthFits, cube, first}
+use Rattle.meaning.specs.Fit.{Fit, fitRows, fitColumns, fitSettingsNumber}
+use Rattle.meaning.specs.Counts.{fitRoomOf, fitRoom}
 use Rattle.theory.specs.Boxes.{cells-power}
 use Rattle.theory.specs.Columns.{Ordered, ordered-none, ordered-more, not-in-after, in-columns-iff, columns-ordered}
+use Rattle.theory.specs.ColumnCount.{columns-le-cells}
 use Rattle.theory.specs.FitSizes.{cells-cube-le}
 use Rattle.answers.specs.declared.Refusal.{Refusal}
 use Rattle.answers.specs.Said.{code}
 use Rattle.answers.specs.Laws.{code-suc, first-code}
 use Rattle.settings.specs.Causes.{settings-cells-le}
-use Rattle.weighted_poly_fit.specs.Sizes.{fitSettings, fitRoomTold}
-use Rattle.weighted_poly_fit.specs.Costs.{Distinct, distinct-none, distinct-more, FitCosts}
-use Rattle.weighted_poly_fit.proofs.ColumnCount.{columns-le-cells}
+use Rattle.room.specs.Sizes.{fitSettings, fitRoomTold}
+use Rattle.room.specs.SizeLaws.{gridNumber, matrixEntries, size-parts}
+use Rattle.room.specs.FitPromises.{Distinct, distinct-none, distinct-more, FitCosts}
 
 module _ (f : Fit) where
-  abbrev grid-number : ℕ
-  grid-number = settingsNumber false (f .variables) (widthFits (f .width)) (f .support) (f .grid)
-
-  abbrev entries : ℕ
-  entries = fitRows f * length (fitColumns f)
-
   -- the settings of the grid are turned down, the matrix is too large, or nothing is
-  pub size-turned : (r : Refusal) → grid-number ≡ code r → fitSettingsNumber f ≡ code r
+  pub size-turned : (r : Refusal) → gridNumber f ≡ code r → fitSettingsNumber f ≡ code r
   size-turned r e = first-code r _ e
 
-  pub size-large : grid-number ≡ 0 → tableLimit < entries → fitSettingsNumber f ≡ 8
-  size-large e h = ap₂ first e (ap (λ (b : Bool). cond b 8 0) (lt-ltb tableLimit entries h))
+  pub size-large : gridNumber f ≡ 0 → tableLimit < matrixEntries f → fitSettingsNumber f ≡ 8
+  size-large e h = ap₂ first e (ap (λ (b : Bool). cond b 8 0) (lt-ltb tableLimit (matrixEntries f) h))
 
-  pub size-passed : grid-number ≡ 0 → entries ≤ tableLimit → fitSettingsNumber f ≡ 0
-  size-passed e h = ap₂ first e (ap (λ (b : Bool). cond b 8 0) (le-ltb tableLimit entries h))
-
-  -- and back
-  pub size-parts : fitSettingsNumber f ≡ 0 → (grid-number ≡ 0) × (entries ≤ tableLimit)
-  size-parts e = go grid-number (ltb tableLimit entries) refl e
-    where
-      go : (n : ℕ) (b : Bool) → ltb tableLimit entries ≡ b → first n (cond b 8 0) ≡ 0 → (n ≡ 0) × (entries ≤ tableLimit)
-      go zero false q h = (refl, ltb-false tableLimit entries q)
-      go zero true q h = absurd (suc-ne-zero 7 h)
-      go (suc n) b q h = absurd (suc-ne-zero n h)
+  pub size-passed : gridNumber f ≡ 0 → matrixEntries f ≤ tableLimit → fitSettingsNumber f ≡ 0
+  size-passed e h = ap₂ first e (ap (λ (b : Bool). cond b 8 0) (le-ltb tableLimit (matrixEntries f) h))
 
   -- the room in each case
   pub fit-room-turned : (r : Refusal) → fitSettingsNumber f ≡ code r → fitRoomTold (code r) 0 0 0 ≡ fitRoom f
@@ -58,32 +42,6 @@ module _ (f : Fit) where
   pub fit-room-passed : (r c : ℕ) → fitSettingsNumber f ≡ 0 → r ≡ fitRows f → c ≡ length (fitColumns f) → fitRoomOf 0 r c ≡ fitRoom f
   unfolding fitRoom
   fit-room-passed r c e p q = ap₂ (fitRoomOf 0) p q ∙ sym (ap (λ (n : ℕ). fitRoomOf n (fitRows f) (length (fitColumns f))) e)
-
-  -- and what an answer that says it tells
-  pub told-turned : (r : Refusal) → fitRoomTold (code r) 0 0 0 ≡ fitRoom f → fitSettingsNumber f ≡ code r
-  unfolding fitRoom
-  told-turned r e = sym (ap (λ (x : FitRoom). x .number) e)
-
-  pub record Told (r c e : ℕ) : Type 0 where
-    pub passes : fitSettingsNumber f ≡ 0
-    pub row-count : r ≡ fitRows f
-    pub column-count : c ≡ length (fitColumns f)
-    pub entry-count : e ≡ entries
-
-  pub told-counts : {r c e : ℕ} → fitRoomTold 0 r c e ≡ fitRoom f → Told r c e
-  unfolding fitRoom
-  told-counts {r} {c} {e} q = go (fitSettingsNumber f) refl q
-    where
-      go : (n : ℕ) → fitSettingsNumber f ≡ n
-          → fitRoomTold 0 r c e ≡ fitRoomOf n (fitRows f) (length (fitColumns f)) → Told r c e
-      go zero p h =
-          record {
-            passes = p;
-            row-count = ap (λ (x : FitRoom). x .row-count) h;
-            column-count = ap (λ (x : FitRoom). x .column-count) h;
-            entry-count = ap (λ (x : FitRoom). x .entry-count) h;
-          }
-      go (suc n) p h = absurd (suc-ne-zero n (sym (ap (λ (x : FitRoom). x .number) h)))
 
 -- what its counts are
 

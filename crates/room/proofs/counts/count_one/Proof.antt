@@ -6,8 +6,8 @@ use native.Mathlib.Numerals.{add-one}
 use native.Mathlib.Omega.{arith}
 use lib.ListN.{length, length-set}
 use Rattle.theory.specs.Tables.{Filled, filled-start, filled-step, filled-done}
-use Rattle.weighted_poly_fit.proofs.counts.count_one.Statement.{statement}
-use Rattle.weighted_poly_fit.proofs.counts.count_one.Tie as tie
+use Rattle.room.proofs.counts.count_one.Statement.{statement}
+use Rattle.room.proofs.counts.count_one.Tie as tie
 
 abbrev Inv-loop : tie.InvT-loop
 Inv-loop counts₀ degree most s₀ counts s = Filled (λ n. suc (min degree n)) counts₀ counts s

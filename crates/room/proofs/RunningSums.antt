@@ -16,7 +16,7 @@ use Rattle.meaning.specs.Boxes.{cells}
 use Rattle.meaning.specs.Fit.{columns}
 use Rattle.theory.specs.Sums.{sum-last, sum-eq, sum-le}
 use Rattle.theory.specs.Tables.{at-tabulate, length-tabulate, tabulate-cong}
-use Rattle.weighted_poly_fit.proofs.ColumnCount.{columns-le-cells, count-none, count-cons}
+use Rattle.theory.specs.ColumnCount.{columns-le-cells, count-none, count-cons}
 
 -- ---- the running sum
 

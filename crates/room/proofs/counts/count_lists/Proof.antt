@@ -10,9 +10,9 @@ use Rattle.meaning.specs.Tables.{tabulate, at}
 use Rattle.meaning.specs.Sums.{sum}
 use Rattle.meaning.specs.Fit.{columns}
 use Rattle.theory.specs.Tables.{length-tabulate}
-use Rattle.weighted_poly_fit.proofs.RunningSums.{list-counts, list-counts-le, list-counts-one, list-counts-next}
-use Rattle.weighted_poly_fit.proofs.counts.count_lists.Statement.{statement}
-use Rattle.weighted_poly_fit.proofs.counts.count_lists.Tie as tie
+use Rattle.room.proofs.RunningSums.{list-counts, list-counts-le, list-counts-one, list-counts-next}
+use Rattle.room.proofs.counts.count_lists.Statement.{statement}
+use Rattle.room.proofs.counts.count_lists.Tie as tie
 
 abbrev Inv-loop : tie.InvT-loop
 Inv-loop counts₀ next₀ degrees i₀ counts next i =

@@ -6,8 +6,8 @@ use Prim.Native.Nat.{ℕ, suc, _-_}
 use native.Mathlib.Omega.{arith}
 use borrow.Author.Tests.{lt-ltb, le-ltb}
 use Rattle.meaning.specs.Tables.{at}
-use Rattle.weighted_poly_fit.proofs.counts.leaving.Statement.{statement}
-use Rattle.weighted_poly_fit.proofs.counts.leaving.Tie as tie
+use Rattle.room.proofs.counts.leaving.Statement.{statement}
+use Rattle.room.proofs.counts.leaving.Tie as tie
 
 pub leaving-spec : {M : Type 1} → statement M
 leaving-spec =

@@ -8,7 +8,7 @@ ghost use Rattle.meaning.specs.Tables.{tabulate, at};
 ghost use Rattle.meaning.specs.Sums.{sum};
 ghost use Rattle.meaning.specs.Boxes.{cells};
 ghost use Rattle.meaning.specs.Fit.{columns};
-use crate::columns;
+use crate::sizes;
 
 // The count that leaves the running sum at place s: that of `degree + 1` places before, where there is one.
 fn leaving(counts: &[u64], degree: usize, s: usize) -> u64
@@ -54,7 +54,7 @@ fn count_one(counts: &mut [u64], degree: u8)
     let most = degree as usize;
     let mut s = 0;
     while s < counts.len() {
-        counts[s] = columns::lesser(most, s) as u64 + 1;
+        counts[s] = sizes::lesser(most, s) as u64 + 1;
         s += 1;
     }
 }

@@ -7,7 +7,7 @@ use Rattle.meaning.specs.Calls.{reply}
 use Rattle.meaning.specs.Fit.{Fit, fitOf, fitColumns, fitSettingsNumber}
 use Rattle.meaning.specs.Counts.{FitRoom}
 use Rattle.answers.specs.Said.{code}
-use Rattle.weighted_poly_fit.specs.declared.sizes.FitRoom as answer
+use Rattle.room.specs.declared.sizes.FitRoom as answer
 
 -- a fit whose tables are left open: total variables, width, support, max_degree, grid_degree
 abbrev pub fitSettings : ℕ → ℕ → List ℕ → ℕ → ℕ → Fit

@@ -1,14 +1,28 @@
 // What a fit needs, from its settings alone, before a value is surveyed: its rows, its columns and the entries of its matrix.
 ghost use mathlib.Core.Path.{_≡_};
+ghost use Prim.Native.Nat.{min};
 ghost use lib.ListN.{length};
 ghost use Rattle.meaning.specs.Counts.{fitRoom};
-ghost use Rattle.weighted_poly_fit.specs.Sizes.{fitSettings, columnsReply, fitRoomSaid};
-ghost use Rattle.weighted_poly_fit.specs.Costs.{FitCosts};
+ghost use Rattle.room.specs.Sizes.{fitSettings, columnsReply, fitRoomSaid};
+ghost use Rattle.room.specs.FitPromises.{FitCosts};
 ghost use Rattle.answers.specs.Said.{said};
 use crate::counts;
-use crate::fit;
 use answers::Number;
 use answers::Refusal;
+
+// The smaller of the two.
+pub fn lesser(a: usize, b: usize) -> usize
+    ensures { λ r. ⌜ r ≡ min a b ⌝ }
+{
+    if a < b { a } else { b }
+}
+
+// The smaller of two degrees.
+pub fn lesser_degree(a: u8, b: u8) -> u8
+    ensures { λ r. ⌜ r ≡ min a b ⌝ }
+{
+    if a < b { a } else { b }
+}
 
 // The counts of a fit that is taken, or why it is turned down.
 pub enum FitRoom {
@@ -36,7 +50,7 @@ pub fn fit_room(
     match settings::check(false, support, total, bitwidth, grid_degree) {
         Number::Refused(refusal) => FitRoom::Refused(refusal),
         Number::Value(rows) => {
-            let degree = fit::lesser_degree(max_degree, grid_degree);
+            let degree = lesser_degree(max_degree, grid_degree);
             let degrees = [degree; 20];
             let columns = counts::count_columns(&degrees[..support.len()], max_degree);
             let entries = rows * columns;

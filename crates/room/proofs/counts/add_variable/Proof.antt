@@ -9,8 +9,8 @@ use lib.ListN.{length}
 use Rattle.meaning.specs.Tables.{tabulate, at}
 use Rattle.meaning.specs.Sums.{sum}
 use Rattle.theory.specs.Tables.{length-tabulate}
-use Rattle.weighted_poly_fit.proofs.counts.add_variable.Statement.{statement}
-use Rattle.weighted_poly_fit.proofs.counts.add_variable.Tie as tie
+use Rattle.room.proofs.counts.add_variable.Statement.{statement}
+use Rattle.room.proofs.counts.add_variable.Tie as tie
 
 -- the start, and the sums made
 abbrev start : tie.After-sum-up → tie.Start

@@ -9,8 +9,8 @@ use lib.ListN.{length}
 use Rattle.meaning.specs.Tables.{at}
 use Rattle.meaning.specs.Fit.{columns}
 use Rattle.theory.specs.Tables.{at-tabulate, length-tabulate}
-use Rattle.weighted_poly_fit.proofs.counts.count_in.Statement.{statement}
-use Rattle.weighted_poly_fit.proofs.counts.count_in.Tie as tie
+use Rattle.room.proofs.counts.count_in.Statement.{statement}
+use Rattle.room.proofs.counts.count_in.Tie as tie
 
 -- the start, and the lists counted
 abbrev start : tie.After-count-lists → tie.Start

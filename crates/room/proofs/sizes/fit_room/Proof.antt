@@ -18,12 +18,12 @@ use Rattle.answers.specs.declared.Refusal.the-variants.{TooLarge}
 use Rattle.settings.specs.Causes.{Passes, passes, settings-cells-le, take-cube}
 use Rattle.settings.specs.Settled.{Settled, Unsettled, settled, unsettled}
 use Rattle.theory.specs.FitSizes.{cells-cube-le}
-use Rattle.weighted_poly_fit.specs.Sizes.{fitSettings}
-use Rattle.weighted_poly_fit.specs.Costs.{FitCosts}
-use Rattle.weighted_poly_fit.proofs.ColumnCount.{columns-le-cells}
-use Rattle.weighted_poly_fit.proofs.SizeLaws.{size-turned, size-large, size-passed, fit-room-turned, fit-room-passed, fit-costs}
-use Rattle.weighted_poly_fit.proofs.sizes.fit_room.Statement.{statement}
-use Rattle.weighted_poly_fit.proofs.sizes.fit_room.Tie as tie
+use Rattle.room.specs.Sizes.{fitSettings}
+use Rattle.room.specs.FitPromises.{FitCosts}
+use Rattle.theory.specs.ColumnCount.{columns-le-cells}
+use Rattle.room.proofs.FitRooms.{size-turned, size-large, size-passed, fit-room-turned, fit-room-passed, fit-costs}
+use Rattle.room.proofs.sizes.fit_room.Statement.{statement}
+use Rattle.room.proofs.sizes.fit_room.Tie as tie
 
 -- the fit that is asked for; the answer says its room
 module _ (s : tie.Start) where

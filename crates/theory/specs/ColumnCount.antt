@@ -2,20 +2,17 @@
 use mathlib.Core.Path.{_≡_, refl, sym, ap, ap₂, _∙_}
 use mathlib.Core.Bool.{Bool, true, false, cond}
 use mathlib.Core.List.{List, [], _∷_, map}
-use Prim.Native.Nat.{ℕ, zero, suc, _+_, _*_, _-_, _≤_, _<_, min, zero-le}
-use native.Mathlib.Nat.{le-trans, le-of-eq, le-refl, le-mul-of-pos-right, zero-lt-suc, mul-le-mul-right, mul-comm, suc-ne-zero}
-use native.Mathlib.Numerals.{add-one}
+use Prim.Native.Nat.{ℕ, zero, suc, _+_, _-_, _≤_, min}
+use native.Mathlib.Nat.{le-refl}
 use native.Mathlib.Decide.{decLe}
 use native.Mathlib.Omega.{arith}
 use lib.Dec.{leb}
-use lib.ListN.{length, take, drop, length-append, length-map, length-drop}
-use lib.Seq.{drop-cons, take-all}
-use Rattle.meaning.specs.Tables.{at}
+use lib.ListN.{length, length-append, length-map}
 use Rattle.meaning.specs.Sums.{sum}
 use Rattle.meaning.specs.Boxes.{cells, digits}
 use Rattle.meaning.specs.Fit.{total, before, insert, columnsTo, columns}
-use Rattle.theory.specs.Sums.{sum-last, sum-eq, sum-add, sum-le}
-use Rattle.weighted_poly_fit.specs.ColumnListing.{blocks, exactly, byDegree, byDegree-eq}
+use Rattle.theory.specs.Sums.{sum-last, sum-eq, sum-add}
+use Rattle.theory.specs.ColumnListing.{blocks, exactly, byDegree, byDegree-eq}
 
 length-insert : (es : List ℕ) (fs : List (List ℕ)) → length (insert es fs) ≡ suc (length fs)
 unfolding insert
@@ -121,12 +118,3 @@ count-cons d ds (suc m) =
         ap₂ (λ (i j : ℕ). sum i C + sum j X) a b
         ∙ omega (arith, sum-last (suc m) X, both (suc m) (omega arith), last, sum-last (suc m) whole)
         ∙ ap (λ (i : ℕ). sum i whole) (sym b)
-
--- ---- the first variable and the others
-
-pub first-rest : (ds : List ℕ) → 0 < length ds → ds ≡ at ds 0 ∷ drop 1 ds
-first-rest ds h = drop-cons ds 0 0 h
-
--- the others, as a part that is lent
-pub rest-whole : (ds : List ℕ) → take (length ds - 1) (drop 1 ds) ≡ drop 1 ds
-rest-whole ds = take-all (length ds - 1) (drop 1 ds) (le-of-eq (length-drop 1 ds))

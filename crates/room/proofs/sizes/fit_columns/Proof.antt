@@ -8,10 +8,10 @@ use Rattle.meaning.specs.Replies.{accepted}
 use Rattle.meaning.specs.Calls.{reply}
 use Rattle.meaning.specs.Fit.{Fit, fitColumns}
 use Rattle.answers.specs.Laws.{reply-code}
-use Rattle.weighted_poly_fit.specs.Sizes.{fitSettings, fitRoomSaid}
-use Rattle.weighted_poly_fit.proofs.SizeLaws.{told-turned, told-counts}
-use Rattle.weighted_poly_fit.proofs.sizes.fit_columns.Statement.{statement}
-use Rattle.weighted_poly_fit.proofs.sizes.fit_columns.Tie as tie
+use Rattle.room.specs.Sizes.{fitSettings, fitRoomSaid}
+use Rattle.room.specs.SizeLaws.{told-turned, told-counts}
+use Rattle.room.proofs.sizes.fit_columns.Statement.{statement}
+use Rattle.room.proofs.sizes.fit_columns.Tie as tie
 
 abbrev asked : tie.After-fit-room → Fit
 asked c =

@@ -9,9 +9,9 @@ use lib.ListN.{length, length-set}
 use Rattle.meaning.specs.Tables.{at}
 use Rattle.meaning.specs.Sums.{sum}
 use Rattle.theory.specs.Tables.{Filled, filled-start, filled-step, filled-done}
-use Rattle.weighted_poly_fit.proofs.RunningSums.{recent, recent-start, recent-whole, recent-next, leaves-le, recent-le}
-use Rattle.weighted_poly_fit.proofs.counts.sum_up.Statement.{statement}
-use Rattle.weighted_poly_fit.proofs.counts.sum_up.Tie as tie
+use Rattle.room.proofs.RunningSums.{recent, recent-start, recent-whole, recent-next, leaves-le, recent-le}
+use Rattle.room.proofs.counts.sum_up.Statement.{statement}
+use Rattle.room.proofs.counts.sum_up.Tie as tie
 
 -- the count at place s with the variable
 abbrev count-with : ℕ → List ℕ → ℕ → ℕ
