@@ -4,7 +4,7 @@ use mathlib.Core.Path.{_≡_, refl, sym, _∙_, ap, ap₂}
 use mathlib.Core.Bool.{Bool, true, false, _&&_, and-assoc, and-true}
 use mathlib.Core.List.{List, [], _∷_}
 use Prim.Native.Nat.{ℕ, zero, suc, _+_, _-_, _/_, _%_, _^_, _≤_, _<_, min}
-use native.Mathlib.Nat.{suc-ne-zero, suc-inj, mod-eq-of-lt, mod-lt, lt-of-not-le}
+use native.Mathlib.Nat.{suc-ne-zero, suc-inj, mod-one, mod-eq-of-lt, mod-lt, lt-of-not-le}
 use native.Mathlib.Numerals.{add-one}
 use native.Mathlib.Decide.{decLe}
 use native.Mathlib.Omega.{arith}
@@ -18,7 +18,7 @@ use Rattle.meaning.specs.Factorials.{factorial, twos}
 use Rattle.meaning.specs.Boxes.{cells, digits}
 use Rattle.meaning.specs.Values.{weight, bound}
 use Rattle.meaning.specs.Recovery.{every}
-use Rattle.theory.specs.Every.{every-cong}
+use Rattle.theory.specs.Every.{true-iff, every-iff, every-cong}
 use Rattle.box_rows.specs.Rows.{Laid, row-mask}
 use Rattle.box_rows.specs.Lines.{LineMask, line-start, line-next}
 use Rattle.box_rows.specs.Bounds.{passes, entryPasses, cellPasses}
@@ -147,6 +147,13 @@ module _ (below : Bool) (w v : ℕ) (ds a b : List ℕ) {n : ℕ} (e : n ≡ cel
   line-box same =
       ap (λ (k : ℕ). every k (entryPasses below v a b)) e
       ∙ every-cong (cells ds) (λ i h. ap (λ (m : ℕ). passes below m (at a i) (at b i)) (same i h))
+
+-- where no bits are left any two lines are equal
+pub none-counts : (n : ℕ) (a b : List ℕ) → true ≡ every n (entryPasses false 0 a b)
+none-counts n a b =
+    sym (true-iff _ .1 (every-iff n (entryPasses false 0 a b) .1 (λ i h.
+    let one : 0 - twos (factorial i) ≡ 0 = omega arith in
+    true-iff _ .0 (eq-eqb _ _ (ap (λ (k : ℕ). at a i % 2 ^ k) one ∙ mod-one (at a i) ∙ sym (ap (λ (k : ℕ). at b i % 2 ^ k) one ∙ mod-one (at b i)))))))
 
 module _ (below : Bool) (w : ℕ) where
   -- where no bits are left, whatever the exponents

@@ -102,6 +102,16 @@ fn test_row(below: bool, a: &[u64], b: &[u64], masks: &[u64], bits: u32) -> bool
     agree_row(a, b, masks, bits)
 }
 
+// Where no bits are left, whatever the exponents: every entry has to be 0, or nothing counts.
+fn test_none(below: bool, a: &[u64], b: &[u64]) -> bool
+    ensures { λ r. ⌜ r ≡ every (length (now (a .entry))) (entryPasses below 0 (now (a .entry)) (now (b .entry))) ⌝ }
+{
+    if below {
+        return bounded_line(a, 0);
+    }
+    true
+}
+
 // Two variables, line by line, up to the first line that fails.
 fn test_plane(below: bool, a: &[u64], b: &[u64], degrees: &[u8], bits: u32) -> bool
     requires { ⌜ (length (now a) ≡ cells (now degrees)) × (length (now b) ≡ cells (now degrees)) × (bits ≤ 64) × (length (now degrees) ≡ 2) ⌝ }
@@ -124,7 +134,7 @@ fn test_plane(below: bool, a: &[u64], b: &[u64], degrees: &[u8], bits: u32) -> b
 }
 
 // The box of `degrees`, of which the first ones make rows: each sub-box of the last variable in turn, up to the first that fails. Where no variable makes
-// rows the walk ends at two variables, and where no bits are left at once, since any line then serves.
+// rows the walk ends at two variables, and where no bits are left at once.
 fn test_box(
     below: bool,
     a: &[u64],
@@ -139,7 +149,7 @@ fn test_box(
     ensures { λ r. ⌜ r ≡ every (cells (now (degrees .entry))) (cellPasses below bits (now (degrees .entry)) (now (a .entry)) (now (b .entry))) ⌝ }
 {
     if bits == 0 {
-        return test_line(below, a, b, 0);
+        return test_none(below, a, b);
     }
     if degrees.len() == first {
         return test_row(below, a, b, masks, bits);

@@ -23,7 +23,7 @@ use Rattle.box_rows.proofs.tests.test_box.Reads as reads
 use Rattle.box_rows.proofs.tests.test_box.Kinds as kinds
 use Rattle.box_rows.proofs.tests.+test_box.Lts-test_box as lts
 use Rattle.box_rows.proofs.layout.bits_left.Reads as bits-left-reads
-use Rattle.box_rows.proofs.tests.test_line.Reads as test-line-reads
+use Rattle.box_rows.proofs.tests.test_none.Reads as test-none-reads
 use Rattle.box_rows.proofs.tests.test_row.Reads as test-row-reads
 use Rattle.box_rows.proofs.tests.test_plane.Reads as test-plane-reads
 use Rattle.box_rows.proofs.tests.+test_box.{statement}
@@ -41,8 +41,8 @@ smaller t = and 4 kinds.ps (falls 4 kinds.ps _<_ μ-test-box t) reads.Pre
 -- what the calls ask and say
 abbrev calls : ℕ → lts.Claims
 calls t = (
-  test-line-reads.Asked,
-  test-line-reads.Learnt,
+  test-none-reads.Asked,
+  test-none-reads.Learnt,
   test-row-reads.Asked,
   test-row-reads.Learnt,
   test-plane-reads.Asked,
@@ -136,7 +136,7 @@ pub +test-box-spec : {M : Type 1} → statement M
     (λ c.
     let h = c .before in
     let s = none-left t h in
-    c .test-line .ensures ∙ line-empty (s .args .below) (s .args .bits) _ (s .args .a .now) (s .args .b .now) (s .pre .1 .0 .0) (h .if1 .taken))
+    c .test-none .ensures ∙ line-empty (s .args .below) (s .args .bits) _ (s .args .a .now) (s .args .b .now) (s .pre .1 .0 .0) (h .if1 .taken))
     (λ c κs.
     let s = one-row t c in
     let r = rowed-whole _ _ _ (s .pre .1 .1) (c .if2 .taken) in
