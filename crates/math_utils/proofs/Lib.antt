@@ -1,2 +1,3 @@
 -- The entries of a Stirling table, cell by cell.
 pub mod Entries
+mod FallingLoops

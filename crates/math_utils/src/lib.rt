@@ -8,6 +8,7 @@ ghost use Rattle.meaning.specs.Differences.{minus};
 ghost use Rattle.answers.specs.Said.{said};
 ghost use Rattle.math_utils.specs.Precision.{precision};
 
+pub mod falling;
 pub mod odd_factors;
 pub mod stirling;
 

@@ -13,6 +13,17 @@ unfoldable pub falling : ℕ → ℕ → ℕ
 falling x zero = 1
 falling x (suc n) = falling x n * (x - n)
 
+-- the least number of leading factors of x (x - 1) (x - 2) .. whose product is zero modulo m, from i on and with n tries at most
+unfoldable pub takenFrom : ℕ → ℕ → ℕ → ℕ → ℕ
+unfolding falling
+takenFrom m x zero i = i
+takenFrom m x (suc n) i = elim (falling x i % m) [ zero ↦ i | suc r ↦ takenFrom m x n (suc i) ]
+
+-- how many of n factors are taken: the least number of leading ones whose product is zero modulo 2^w, or all n where there is none
+unfoldable pub taken : ℕ → ℕ → ℕ → ℕ
+unfolding takenFrom
+taken w x n = takenFrom (2 ^ w) x n 0
+
 -- how often 2 divides n, looking at d binary digits at most
 unfoldable pub twosIn : ℕ → ℕ → ℕ
 twosIn zero n = 0

@@ -1,12 +1,12 @@
 -- What the calls of arith, math_utils and mono answer.
-use Prim.Native.Nat.{ℕ, zero, suc, _*_, _/_, _%_, _^_, max}
+use Prim.Native.Nat.{ℕ, zero, suc, _*_, _-_, _/_, _%_, _^_, max}
 use mathlib.Core.Bool.{_&&_, cond}
 use mathlib.Core.List.{List}
 use lib.Dec.{leb, ltb, eqb}
 use lib.ListN.{length, set}
 use Rattle.meaning.specs.Tables.{tabulate, at}
 use Rattle.meaning.specs.Sums.{sum}
-use Rattle.meaning.specs.Factorials.{factorial, twos, oddPart, degreeCap}
+use Rattle.meaning.specs.Factorials.{factorial, falling, taken, twos, oddPart, degreeCap}
 use Rattle.meaning.specs.Inverses.{inverse}
 use Rattle.meaning.specs.Integers.{residue}
 use Rattle.meaning.specs.Stirling.{stirling1, stirling2}
@@ -24,6 +24,29 @@ oddPartReply k w = cond (leb k 255 && between 1 64 w) (accepted (oddPart (factor
 -- the inverse of x modulo 2^bits, for odd x and 1 to 64 bits
 abbrev pub inverseReply : ℕ → ℕ → Reply
 inverseReply x bits = cond (eqb (x % 2) 1 && between 1 64 bits) (accepted (inverse x bits)) (refused 11)
+
+-- Falling products modulo 2^w, for widths 2 to 64. They stop as soon as they are zero.
+
+-- what the product of n factors says: the number of its refusal, or 0, the product, and how many factors were taken
+pub record FallingReply : Type 0 where
+  pub number : ℕ
+  pub product : ℕ
+  pub factors : ℕ
+
+abbrev pub fallingTold : ℕ → ℕ → ℕ → FallingReply
+fallingTold n p t = record { number = n; product = p; factors = t }
+
+-- x (x - 1) .. (x - n + 1) modulo 2^w
+abbrev pub fallingReply : ℕ → ℕ → ℕ → FallingReply
+fallingReply w x n = cond (widthFits w) (fallingTold 0 (falling x n % 2 ^ w) (taken w x n)) (fallingTold 11 0 0)
+
+-- how many factors a table of the products of 0, 1, .. factors takes, where it has `size` entries
+abbrev pub productsReply : ℕ → ℕ → ℕ → Reply
+productsReply w x size = cond (widthFits w) (accepted (taken w x (size - 1))) (refused 11)
+
+-- what it leaves in the lent table: the products, or what was there
+abbrev pub productsLeft : ℕ → ℕ → List ℕ → List ℕ
+productsLeft w x lent = cond (widthFits w) (tabulate (length lent) (λ n. falling x n % 2 ^ w)) lent
 
 -- a Stirling table has (n + 1)^2 cells; the entry of i and j is at cell i (n + 1) + j
 abbrev pub stirling2Table : ℕ → ℕ → List ℕ

@@ -10,6 +10,7 @@ pub mod DegreeCap
 pub mod Ranges
 pub mod Largest
 pub mod Binomials
+pub mod FallingProducts
 pub mod Newton
 pub mod Boxes
 pub mod CountedCells
