@@ -75,3 +75,6 @@ module _ {ds : List ℕ} {n size e from : ℕ} (w : Walk ds n size e from) where
   walk-done h =
       let last : suc (final ds) ≤ e = le-of-mul-le-mul-right (omega (arith, w .place, all)) size-pos in
       omega (arith, w .within)
+
+  pub walk-end : n ≤ from → from ≡ n
+  walk-end h = w .place ∙ ap (_* size) (walk-done h) ∙ sym all

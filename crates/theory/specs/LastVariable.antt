@@ -2,7 +2,7 @@
 -- the order of that box: so a table of the box is a row of tables of the smaller box, and a walk over the cells is a recursion over the last variable.
 use mathlib.Core.Path.{_≡_, refl, sym, _∙_, ap, ap₂}
 use mathlib.Core.List.{List, [], _∷_, _++_}
-use Prim.Native.Nat.{ℕ, suc, _+_, _*_, _-_, _/_, _%_, _^_, _≤_, _<_, suc-le-suc}
+use Prim.Native.Nat.{ℕ, zero, suc, _+_, _*_, _-_, _/_, _%_, _^_, _≤_, _<_, suc-le-suc}
 use native.Mathlib.Nat.{le-of-suc-le-suc, zero-lt-suc, mod-lt, mod-eq-of-lt, mul-comm, mul-assoc, mul-left-comm, sub-add-eq, div-add-mod', div-lt-iff-lt-mul, div-eq-of-eq-mul-left}
 use native.Mathlib.Numerals.{add-one}
 use native.Mathlib.Omega.{arith}
@@ -64,6 +64,12 @@ product-snoc f xs (y ∷ ys) e =
     one-add : (n : ℕ) → 1 + n ≡ suc n
     one-add n = omega arith
 
+-- a product with both lists in each other's place
+product-swap : (f : ℕ → ℕ → ℕ) (k : ℕ) (xs es : List ℕ) → product f k xs es ≡ product (λ e x. f x e) k es xs
+unfolding product
+product-swap f zero xs es = refl
+product-swap f (suc k) xs es = ap (f (at xs 0) (at es 0) *_) (product-swap f k (drop 1 xs) (drop 1 es))
+
 -- ---- the last variable and the others
 
 -- the degrees but the last
@@ -115,6 +121,14 @@ module _ (ds : List ℕ) (filled : 0 < length ds) where
         ap₂ (λ (i : ℕ) (l : List ℕ). product f i xs l) n digits-last
         ∙ product-snoc f xs es e
         ∙ ap₂ (λ (i j : ℕ). f (at xs i) e * product f j xs es) l k
+
+    -- the product at a point of a sub-box
+    pub product-point : (f : ℕ → ℕ → ℕ) (es : List ℕ) → product f (length ds) (digits ds (e * cells (others ds) + r)) es
+        ≡ f e (at es (length ds - 1)) * product f (length (others ds)) (digits (others ds) r) es
+    product-point f es =
+        product-swap f (length ds) (digits ds (e * cells (others ds) + r)) es
+        ∙ product-last (λ e x. f x e) es
+        ∙ ap (f e (at es (length ds - 1)) *_) (sym (product-swap f (length (others ds)) (digits (others ds) r) es))
 
 -- ---- the value by the last variable
 

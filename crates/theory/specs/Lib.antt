@@ -57,3 +57,4 @@ pub mod ColumnValues
 pub mod FitBoxes
 pub mod FitSizes
 pub mod FitLaws
+pub mod FewColumns

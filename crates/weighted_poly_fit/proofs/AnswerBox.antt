@@ -23,7 +23,7 @@ use Rattle.theory.specs.Columns.{in-columns-iff}
 use Rattle.theory.specs.Largest.{largest-last}
 use Rattle.theory.specs.FitBoxes.{fitBox-column, fitBox-entry, fitBox-other, degreeUsed-columns, column-within, column-bounded, place-of}
 use Rattle.weighted_poly_fit.proofs.Listed.{length-columns-joined}
-use Rattle.weighted_poly_fit.proofs.Coordinates.{part-joined}
+use Rattle.weighted_poly_fit.proofs.FitMatrix.{part-joined}
 
 -- the exponents of column c, and the degree that it has in the answer
 abbrev pub listOf : List ℕ → ℕ → ℕ → List ℕ

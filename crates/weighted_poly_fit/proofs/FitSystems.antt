@@ -16,7 +16,7 @@ use Rattle.meaning.specs.Elimination.{joined, system}
 use Rattle.meaning.specs.Fit.{columns, fitSystem}
 use Rattle.theory.specs.Tables.{at-tabulate, length-tabulate}
 use Rattle.theory.specs.MatrixTables.{flat, at-matrix}
-use Rattle.weighted_poly_fit.specs.Powers.{weighed}
+use Rattle.weighted_poly_fit.specs.Entries.{weighed}
 use Rattle.weighted_poly_fit.proofs.FitMatrix.{weighed-system}
 
 -- past its end a table has 0

@@ -3,9 +3,8 @@ pub mod Pasted
 pub mod Listed
 pub mod Steps
 pub mod ByDegrees
-pub mod Entries
-pub mod Coordinates
 pub mod MatrixRows
+pub mod MatrixColumns
 pub mod FitMatrix
 pub mod ExponentLists
 pub mod AnswerBox

@@ -14,14 +14,17 @@ use Rattle.meaning.specs.Fit.{fitBox, degreeUsed, Fit, fitRows, fitColumns, fit
 
 -- ---- the system
 
--- width and degrees, of the box and of the grid, of a fit; the box's are below `size`, and a point has few powers
-pub record Shaped (w size : ℕ) (ds gs : List ℕ) : Type 0 where
+-- width and degrees, of the box and of the grid, of a fit; the box's are below `size`, with two variables or more the grid's below `side`, and there are few
+-- falling factorials of the coordinates below `side`
+pub record Shaped (w side size : ℕ) (ds gs : List ℕ) : Type 0 where
   pub fits : widthFits w ≡ true
   pub high : w ≤ 64
   pub same : length gs ≡ length ds
   pub variables-few : length ds ≤ 20
-  pub powers-few : length ds * size ≤ 512
+  pub some : 0 < length ds
+  pub products-few : side * size ≤ 362
   pub below : (j : ℕ) → j < length ds → at ds j < size
+  pub grid-below : 1 < length gs → (j : ℕ) → j < length gs → at gs j < side
 
 -- a matrix and a right side that the solver takes, with a value in x for each column
 pub record Solvable (w : ℕ) (mat rhs x : List ℕ) : Type 0 where

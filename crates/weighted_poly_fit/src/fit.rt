@@ -1,7 +1,7 @@
 // The weighted fit: coefficients of falling factorials whose value at each grid point, times the weight there, is the target there, modulo 2^w.
 ghost use mathlib.Core.Path.{_≡_};
-ghost use mathlib.Core.Bool.{_&&_};
-ghost use Prim.Native.Nat.{_*_, _≤_, min};
+ghost use mathlib.Core.Bool.{_&&_, cond};
+ghost use Prim.Native.Nat.{_+_, _*_, _≤_, min};
 ghost use lib.Dec.{eqb};
 ghost use lib.ListN.{length};
 ghost use Rattle.meaning.specs.Boxes.{cells};
@@ -17,7 +17,7 @@ use answers::Refusal;
 use room::sizes;
 use room::sizes::FitRoom;
 
-// A fit whose tables have their exact lengths, with room for a point's powers, for the exponents and for the values of the columns. Matrix and right side
+// A fit whose tables have their exact lengths, with room for the falling factorials of the coordinates, for the exponents and for the values of the columns. Matrix and right side
 // end as zeros.
 pub(crate) fn fit_with(
     weights: &[u64],
@@ -25,23 +25,24 @@ pub(crate) fn fit_with(
     degrees: &[u8],
     grid: &[u8],
     most: u8,
+    side: usize,
     size: usize,
     bitwidth: u32,
-    powers: &mut [u64],
+    products: &mut [u64],
     exponents: &mut [u8],
     values: &mut [u64],
     matrix: &mut [u64],
     right: &mut [u64],
     out: &mut [u64],
 ) -> Number
-    requires { ⌜ Shaped bitwidth size (now degrees) (now grid) ⌝ }
+    requires { ⌜ Shaped bitwidth side size (now degrees) (now grid) ⌝ }
     requires { ⌜ Exact (fitWith bitwidth (now degrees) (now grid) most (now weights) (now targets) (now matrix) (now right) (now out)) (length (now values)) ⌝ }
-    requires { ⌜ (length (now exponents) ≡ length (now values) * length (now degrees)) × (length (now powers) ≡ length (now degrees) * size) ⌝ }
+    requires { ⌜ (length (now exponents) ≡ length (now values) * length (now degrees)) × (length (now products) ≡ side * size) ⌝ }
     ensures { λ r. ⌜ Fitted (fitWith bitwidth (now (degrees .entry)) (now (grid .entry)) most (now (weights .entry)) (now (targets .entry))
         (now (matrix .entry)) (now (right .entry)) (now (out .entry))) 0 (now (matrix .exit)) (now (right .exit)) (now (out .exit)) (said r) ⌝ }
 {
     systems::fill_system(
-        powers,
+        products,
         exponents,
         matrix,
         right,
@@ -51,6 +52,7 @@ pub(crate) fn fit_with(
         grid,
         most,
         values.len(),
+        side,
         size,
         bitwidth,
     );
@@ -107,13 +109,14 @@ fn fit_box(
     most: u8,
     rows: usize,
     cols: usize,
+    side: usize,
     size: usize,
     bitwidth: u32,
     matrix: &mut [u64],
     right: &mut [u64],
     out: &mut [u64],
 ) -> Number
-    requires { ⌜ Shaped bitwidth size (now degrees) (now grid) ⌝ }
+    requires { ⌜ Shaped bitwidth side size (now degrees) (now grid) ⌝ }
     requires { ⌜ (rows ≡ cells (now grid)) × (rows ≤ 65536) × (cells (now degrees) ≤ rows) × (cols ≡ length (columns (now degrees) most)) × (rows * cols ≤ 65536) ⌝ }
     ensures { λ r. ⌜ Fitted (fitWith bitwidth (now (degrees .entry)) (now (grid .entry)) most (now (weights .entry)) (now (targets .entry))
         (now (matrix .entry)) (now (right .entry)) (now (out .entry)))
@@ -141,12 +144,23 @@ fn fit_box(
         grid,
         most,
         cols,
+        side,
         size,
         bitwidth,
         matrix,
         right,
         out,
     )
+}
+
+// How many coordinates have their falling factorials in a table: with two variables or more those of the grid, and with one none, since none recurs.
+fn tabled(variables: usize, grid_degree: u8) -> usize
+    ensures { λ r. ⌜ r ≡ cond (eqb variables 1) 0 («grid_degree» + 1) ⌝ }
+{
+    if variables == 1 {
+        return 0;
+    }
+    grid_degree as usize + 1
 }
 
 // The fit, by its equations.
@@ -183,6 +197,7 @@ fn weighted_fit(
                 max_degree,
                 rows as usize,
                 columns as usize,
+                tabled(support.len(), grid_degree),
                 degree as usize + 1,
                 bitwidth,
                 matrix,

@@ -1,4 +1,4 @@
-// The room that a fit needs besides its lent tables, in two sizes: a point's powers, the exponents and the values of the columns.
+// The room that a fit needs besides its lent tables, in two sizes: the falling factorials of the coordinates, the exponents and the values of the columns.
 ghost use Prim.Native.Nat.{_*_, _≤_, _<_};
 ghost use lib.ListN.{length};
 ghost use Rattle.weighted_poly_fit.specs.Fitting.{Shaped, Exact, Fitted, fitWith};
@@ -6,7 +6,7 @@ ghost use Rattle.answers.specs.Said.{said};
 use crate::fit;
 use answers::Number;
 
-// With room for 16 columns and 64 powers.
+// With room for 16 columns and 64 falling factorials.
 fn fit_small(
     weights: &[u64],
     targets: &[u64],
@@ -14,21 +14,22 @@ fn fit_small(
     grid: &[u8],
     most: u8,
     cols: usize,
+    side: usize,
     size: usize,
     bitwidth: u32,
     matrix: &mut [u64],
     right: &mut [u64],
     out: &mut [u64],
 ) -> Number
-    requires { ⌜ Shaped bitwidth size (now degrees) (now grid) ⌝ }
+    requires { ⌜ Shaped bitwidth side size (now degrees) (now grid) ⌝ }
     requires { ⌜ Exact (fitWith bitwidth (now degrees) (now grid) most (now weights) (now targets) (now matrix) (now right) (now out)) cols ⌝ }
-    requires { ⌜ (cols ≤ 16) × (length (now degrees) * size ≤ 64) ⌝ }
+    requires { ⌜ (cols ≤ 16) × (side * size ≤ 64) ⌝ }
     ensures { λ r. ⌜ Fitted (fitWith bitwidth (now (degrees .entry)) (now (grid .entry)) most (now (weights .entry)) (now (targets .entry))
         (now (matrix .entry)) (now (right .entry)) (now (out .entry))) 0 (now (matrix .exit)) (now (right .exit)) (now (out .exit)) (said r) ⌝ }
 {
-    let places = degrees.len() * size;
+    let places = side * size;
     let list = cols * degrees.len();
-    let mut powers = [0u64; 64];
+    let mut products = [0u64; 64];
     let mut exponents = [0u8; 320];
     let mut values = [0u64; 16];
     fit::fit_with(
@@ -37,9 +38,10 @@ fn fit_small(
         degrees,
         grid,
         most,
+        side,
         size,
         bitwidth,
-        &mut powers[..places],
+        &mut products[..places],
         &mut exponents[..list],
         &mut values[..cols],
         matrix,
@@ -48,7 +50,7 @@ fn fit_small(
     )
 }
 
-// With room for 256 columns and 512 powers. It is for fits that are not small, so that its call of itself is never made: that call keeps the compiler from
+// With room for 256 columns and 362 falling factorials. It is for fits that are not small, so that its call of itself is never made: that call keeps the compiler from
 // laying the room out in the frame of the small ones.
 fn fit_large(
     weights: &[u64],
@@ -57,19 +59,20 @@ fn fit_large(
     grid: &[u8],
     most: u8,
     cols: usize,
+    side: usize,
     size: usize,
     bitwidth: u32,
     matrix: &mut [u64],
     right: &mut [u64],
     out: &mut [u64],
 ) -> Number
-    requires { ⌜ Shaped bitwidth size (now degrees) (now grid) ⌝ }
+    requires { ⌜ Shaped bitwidth side size (now degrees) (now grid) ⌝ }
     requires { ⌜ Exact (fitWith bitwidth (now degrees) (now grid) most (now weights) (now targets) (now matrix) (now right) (now out)) cols ⌝ }
-    requires { ⌜ (cols ≤ 16 → 64 < length (now degrees) * size) ⌝ }
+    requires { ⌜ (cols ≤ 16 → 64 < side * size) ⌝ }
     ensures { λ r. ⌜ Fitted (fitWith bitwidth (now (degrees .entry)) (now (grid .entry)) most (now (weights .entry)) (now (targets .entry))
         (now (matrix .entry)) (now (right .entry)) (now (out .entry))) 0 (now (matrix .exit)) (now (right .exit)) (now (out .exit)) (said r) ⌝ }
 {
-    let places = degrees.len() * size;
+    let places = side * size;
     let list = cols * degrees.len();
     if cols <= 16 {
         if places <= 64 {
@@ -80,6 +83,7 @@ fn fit_large(
                 grid,
                 most,
                 cols,
+                side,
                 size,
                 bitwidth,
                 matrix,
@@ -90,7 +94,7 @@ fn fit_large(
             return never;
         }
     }
-    let mut powers = [0u64; 512];
+    let mut products = [0u64; 362];
     let mut exponents = [0u8; 5120];
     let mut values = [0u64; 256];
     fit::fit_with(
@@ -99,9 +103,10 @@ fn fit_large(
         degrees,
         grid,
         most,
+        side,
         size,
         bitwidth,
-        &mut powers[..places],
+        &mut products[..places],
         &mut exponents[..list],
         &mut values[..cols],
         matrix,
@@ -118,13 +123,14 @@ pub(crate) fn fit_tables(
     grid: &[u8],
     most: u8,
     cols: usize,
+    side: usize,
     size: usize,
     bitwidth: u32,
     matrix: &mut [u64],
     right: &mut [u64],
     out: &mut [u64],
 ) -> Number
-    requires { ⌜ Shaped bitwidth size (now degrees) (now grid) ⌝ }
+    requires { ⌜ Shaped bitwidth side size (now degrees) (now grid) ⌝ }
     requires { ⌜ Exact (fitWith bitwidth (now degrees) (now grid) most (now weights) (now targets) (now matrix) (now right) (now out)) cols ⌝ }
     ensures { λ r. ⌜ Fitted (fitWith bitwidth (now (degrees .entry)) (now (grid .entry)) most (now (weights .entry)) (now (targets .entry))
         (now (matrix .entry)) (now (right .entry)) (now (out .entry))) 0 (now (matrix .exit)) (now (right .exit)) (now (out .exit)) (said r) ⌝ }
@@ -137,6 +143,7 @@ pub(crate) fn fit_tables(
             grid,
             most,
             cols,
+            side,
             size,
             bitwidth,
             matrix,
@@ -144,7 +151,7 @@ pub(crate) fn fit_tables(
             out,
         );
     }
-    if 64 < degrees.len() * size {
+    if 64 < side * size {
         return fit_large(
             weights,
             targets,
@@ -152,6 +159,7 @@ pub(crate) fn fit_tables(
             grid,
             most,
             cols,
+            side,
             size,
             bitwidth,
             matrix,
@@ -166,6 +174,7 @@ pub(crate) fn fit_tables(
         grid,
         most,
         cols,
+        side,
         size,
         bitwidth,
         matrix,

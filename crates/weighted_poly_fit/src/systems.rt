@@ -18,9 +18,10 @@ use answers::Outcome;
 use answers::Refusal;
 
 // Lists the columns and fills the matrix and the right side of the system. `degrees` has the highest exponents, all below `size`, and `grid` the degrees of
-// the grid; there are `cols` columns. `powers` has `size` places for each variable and is used up.
+// the grid, with two variables or more all below `side`; there are `cols` columns. `products` has `size` places for each coordinate below `side` and is
+// used up.
 pub(crate) fn fill_system(
-    powers: &mut [u64],
+    products: &mut [u64],
     exponents: &mut [u8],
     matrix: &mut [u64],
     right: &mut [u64],
@@ -30,20 +31,20 @@ pub(crate) fn fill_system(
     grid: &[u8],
     most: u8,
     cols: usize,
+    side: usize,
     size: usize,
     bitwidth: u32,
 )
-    requires { ⌜ Shaped bitwidth size (now degrees) (now grid) ⌝ }
+    requires { ⌜ Shaped bitwidth side size (now degrees) (now grid) ⌝ }
     requires { ⌜ (cols ≡ length (columns (now degrees) most)) × (length (now exponents) ≡ cols * length (now degrees)) ⌝ }
     requires { ⌜ (length (now matrix) ≡ length (now weights) * cols) × (length (now targets) ≡ length (now right))
-        × (length (now powers) ≡ length (now degrees) * size) ⌝ }
+        × (length (now products) ≡ side * size) × (length (now weights) ≡ cells (now grid)) ⌝ }
     ensures lists { λ r. ⌜ now (exponents .exit) ≡ joined (columns (now (degrees .entry)) most) ⌝ }
     ensures fills { λ r. ⌜ system bitwidth cols (now (matrix .exit)) (now (right .exit))
         ≡ fitSystem bitwidth (now (grid .entry)) (columns (now (degrees .entry)) most) (now (weights .entry)) (now (targets .entry)) ⌝ }
 {
     let variables = degrees.len();
     let mut current = [0u8; 20];
-    let mut point = [0u64; 20];
     columns::enumerate_basis(exponents, &mut current[..variables], degrees, most);
     matrix::fill_matrix(
         matrix,
@@ -51,9 +52,9 @@ pub(crate) fn fill_system(
         grid,
         exponents,
         cols,
+        side,
         size,
-        powers,
-        &mut point[..variables],
+        products,
         bitwidth,
     );
     matrix::fill_right(right, targets, bitwidth);

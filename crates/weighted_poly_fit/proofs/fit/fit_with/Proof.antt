@@ -53,6 +53,7 @@ fit-with-spec =
           e .matrix-long ∙ ap (_* length (s .args .values .now)) (sym (e .weights-long)),
           e .targets-long ∙ sym (e .right-long),
           p .1 .1 .1,
+          e .weights-long,
         ),
       ),
     ))

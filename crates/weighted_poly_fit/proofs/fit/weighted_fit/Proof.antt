@@ -4,7 +4,7 @@ use mathlib.Core.Path.{_≡_, sym, ap, ap₂, subst, _∙_}
 use mathlib.Core.Bool.{false}
 use mathlib.Core.List.{List}
 use Prim.Native.Nat.{ℕ, _+_, _*_, _≤_, _<_}
-use native.Mathlib.Nat.{le-trans, le-of-eq}
+use native.Mathlib.Nat.{le-trans, le-of-eq, lt-of-lt-of-le}
 use native.Mathlib.Omega.{arith}
 use lib.ListN.{length, take, replicate}
 use lib.Seq.{length-take-le}
@@ -21,11 +21,11 @@ use Rattle.room.specs.Sizes.{fitRoomSaid}
 use Rattle.room.specs.SizeLaws.{size-parts, Told, told-turned, told-counts}
 use Rattle.weighted_poly_fit.specs.Fitting.{Shaped}
 use Rattle.weighted_poly_fit.proofs.FitCalls.{cube-low, call-settled, call-turned, fitted-degrees}
-use Rattle.weighted_poly_fit.proofs.RoomLaws.{powers-few}
+use Rattle.weighted_poly_fit.proofs.RoomLaws.{tabled-side, tabled-few}
 use Rattle.weighted_poly_fit.proofs.fit.weighted_fit.Statement.{statement}
 use Rattle.weighted_poly_fit.proofs.fit.weighted_fit.Tie as tie
 
--- the start, the settings that pass or do not, the smaller degree, and the call of `fit_box`
+-- the start, the settings that pass or do not, the smaller degree, the side of the table, and the call of `fit_box`
 abbrev start : tie.After-fit-room → tie.Start
 start c = c .before .before .before .before .before .before .before
 
@@ -35,8 +35,11 @@ answered c = c .before .before
 abbrev declined : tie.After-refusal → tie.After-fit-room
 declined c = c .before .before
 
-abbrev lesser : tie.After-fit-box-arg3 → tie.After-lesser-degree
-lesser c = c .before .before .before .before .before
+abbrev sided : tie.After-fit-box-arg3 → tie.After-tabled
+sided c = c .before .before .before
+
+abbrev lesser : tie.After-tabled → tie.After-lesser-degree
+lesser c = c .before .before .before
 
 abbrev passed : tie.After-lesser-degree → tie.After-rows
 passed c = c .before .before
@@ -70,27 +73,35 @@ module _ (c : tie.After-rows) where
   grid-small = settings-cells-le tableLimit false (fit .variables) (widthFits (fit .width)) (fit .support) (fit .grid) (parts .0)
 
 -- the shape of what is asked of `fit_box`
-shaped : (c : tie.After-lesser-degree) →
-    let k = start (answered (passed c)) .args in let n = length (k .support .now) in let d = c .lesser-degree .result in
-    Shaped (k .bitwidth) (d + 1) (take n (replicate 20 d)) (take n (replicate 20 (k .grid-degree)))
+shaped : (c : tie.After-tabled) →
+    let l = lesser c in
+    let k = start (answered (passed l)) .args in
+    let n = length (k .support .now) in
+    let d = l .lesser-degree .result in
+    Shaped (k .bitwidth) (c .tabled .result) (d + 1) (take n (replicate 20 d)) (take n (replicate 20 (k .grid-degree)))
 shaped c =
-    let b = passed c in
-    let s = start (answered b) in
-    let k = s .args in
+    let l = lesser c .lesser-degree in
+    let b = passed (lesser c) in
+    let k = start (answered b) .args in
     let p = pass b in
-    let l = c .lesser-degree in
     let d = l .result in
     let n = length (k .support .now) in
     let long = length-take-le n (replicate 20 d) (p .short) in
-    let less : d ≤ k .grid-degree = omega (arith, l .ensures) in
+    let wide = length-take-le n (replicate 20 (k .grid-degree)) (p .short) in
+    let small : cells (replicate n (k .grid-degree)) * length (columns (replicate n d) (k .max-degree)) ≤ 65536 =
+    le-trans (le-of-eq (ap (λ (i : ℕ). cells (replicate n (k .grid-degree)) * length (columns (replicate n i) (k .max-degree))) (l .ensures))) (parts b .1) in
     record {
       fits = p .width;
       high = width-high (k .bitwidth) (p .width);
-      same = length-take-le n (replicate 20 (k .grid-degree)) (p .short) ∙ sym long;
+      same = wide ∙ sym long;
       variables-few = le-trans (le-of-eq long) (p .short);
-      powers-few =
-          le-trans (le-of-eq (ap (_* (d + 1)) long)) (powers-few n (k .grid-degree) d (p .short) (omega (arith, s .fits .grid-degree)) (grid-small b) less);
+      some = lt-of-lt-of-le (p .not-empty) (le-of-eq (sym long));
+      products-few = tabled-few n (k .grid-degree) d (k .max-degree) (omega (arith, l .ensures)) small (p .not-empty) (c .tabled .ensures);
       below = λ j h. subst (λ (ds : List ℕ). at ds j < d + 1) (sym (take-cube (k .support .now) d (p .short))) (cube-low n d j);
+      grid-below = λ m j h.
+          subst (λ (ds : List ℕ). at ds j < c .tabled .result) (sym (take-cube (k .support .now) (k .grid-degree) (p .short)))
+          (lt-of-lt-of-le (cube-low n (k .grid-degree) j)
+          (le-of-eq (sym (tabled-side n (k .grid-degree) (lt-of-lt-of-le m (le-of-eq wide)) (c .tabled .ensures)))));
     }
 
 -- they are turned down
@@ -111,17 +122,18 @@ weighted-fit-spec =
     (λ c. sym (length-take-le _ _ (pass (passed (c .before)) .short)))
     (λ c. pass (passed (c .before)) .short)
     (λ c. sym (length-take-le _ _ (pass (passed (c .before .before)) .short)))
+    (λ c κs. search needs)
     (λ c. search needs)
     (λ c. search needs)
     (λ c κs.
-    let l = lesser c in
+    let l = lesser (sided c) in
     let b = passed l in
     let k = start (answered b) .args in
     let support = k .support .now in
     let r = ok b in
     let p = pass b in
     let t = take-cube support (l .lesser-degree .result) (p .short) in (
-      shaped l,
+      shaped (sided c),
       (
         r .row-count ∙ ap cells (sym (take-cube support (k .grid-degree) (p .short))),
         le-trans (le-of-eq (r .row-count)) (grid-small b),
@@ -135,7 +147,7 @@ weighted-fit-spec =
     (λ c. search needs) (λ c. search needs) (λ c. search needs)
     (λ c.
     let f = called c in
-    let l = lesser (f .before) in
+    let l = lesser (sided (f .before)) in
     let b = passed l in
     let s = start (answered b) in
     let k = s .args in

@@ -1,99 +1,97 @@
--- The loop fills one row after the other.
-use Rattle.weighted_poly_fit.proofs.matrix.fill_matrix.Statement.{statement}
-use Prim.Native.Nat.{_+_, _*_, _-_, _≤_}
-use native.Mathlib.Omega.{arith}
-use native.Mathlib.Nat.{le-of-eq}
-use mathlib.Core.Path.{_≡_, sym, _∙_, ap}
+-- Of one variable the rows are falling factorials times their weights; of more the columns are filled from the table of falling factorials.
 use borrow.Author.Needs.{needs}
+use Rattle.weighted_poly_fit.proofs.matrix.fill_matrix.Statement.{statement}
+use mathlib.Core.Path.{_≡_, sym, ap, _∙_}
+use Prim.Native.Nat.{ℕ, _*_, _%_, _^_, _<_}
+use native.Mathlib.Nat.{mul-le-mul-right, le-trans, le-of-eq, lt-of-lt-of-le}
+use native.Mathlib.Omega.{arith}
 use lib.ListN.{length}
-use Rattle.meaning.specs.Boxes.{digits}
-use Rattle.weighted_poly_fit.proofs.MatrixRows.{Rows, rows-start, row-end, row-columns, point-powers, rows-next, rows-done}
+use Rattle.meaning.specs.Tables.{at, tabulate}
+use Rattle.theory.specs.Tables.{length-tabulate}
+use Rattle.theory.specs.Ranges.{width-high}
+use Rattle.theory.specs.MatrixTables.{flat}
+use Rattle.weighted_poly_fit.specs.Entries.{weighed, fallen}
+use Rattle.weighted_poly_fit.proofs.MatrixRows.{products-hold, flat-eq}
+use Rattle.weighted_poly_fit.proofs.MatrixColumns.{one-weighed}
 use Rattle.weighted_poly_fit.proofs.matrix.fill_matrix.Tie as tie
 
-abbrev Inv-loop : tie.InvT-loop
-Inv-loop matrix₀ weights degrees columns cols size powers₀ point₀ bitwidth from₀ i₀ matrix powers point from i = Rows matrix₀ weights degrees columns
-    cols size bitwidth powers₀ point₀ matrix powers point from i
+-- the start with one variable, its rows of falling factorials, and the rows weighed
+abbrev one : tie.Then1 → tie.Start
+one c = c .before .before .before .before .before .before
 
-abbrev μ-loop : tie.MeasureT-loop
-μ-loop matrix₀ weights degrees columns cols size powers₀ point₀ bitwidth from₀ i₀ matrix powers point from i = length weights - i
+abbrev rows : tie.After-weigh-rows-arg → tie.After-fill-products
+rows c = c .before .before .before
 
--- the start, the turn, its point, its powers, and its row
-abbrev start : tie.After-slice-known3 Inv-loop μ-loop → tie.Start Inv-loop μ-loop
-start c = c .before .before .before .before .before .before
+abbrev weighing : tie.After-weigh-rows → tie.After-weigh-rows-arg
+weighing c = c .before
 
-abbrev turn : tie.After-coordinates Inv-loop μ-loop → tie.In-loop Inv-loop μ-loop
-turn c = c .before .before
+-- the start with more, and its table
+abbrev more : tie.Else1 → tie.Start
+more c = c .before .before .before .before .before .before
 
-abbrev pointed : tie.After-point-powers Inv-loop μ-loop → tie.After-coordinates Inv-loop μ-loop
-pointed c = c .before .before .before .before .before
+abbrev table : tie.After-fill-columns-arg2 → tie.After-fill-products2
+table c = c .before .before .before .before
 
-abbrev powered : tie.After-fill-row-arg2 Inv-loop μ-loop → tie.After-point-powers Inv-loop μ-loop
-powered c = c .before .before .before .before
+-- both keep their lengths
+rows-long : (c : tie.After-fill-products) → length (c .fill-products .last .0) ≡ length (one (c .before .before) .args .matrix .now)
+rows-long c = ap length (c .fill-products .ensures) ∙ length-tabulate _ _
 
-abbrev filled : tie.After-slice-known6 Inv-loop μ-loop → tie.After-fill-row Inv-loop μ-loop
-filled c = c .before .before
-
-abbrev begun : tie.In-loop Inv-loop μ-loop → tie.Start Inv-loop μ-loop
-begun c = start (c .before .before)
-
--- the row to be filled lies in the matrix
-inside : (c : tie.In-loop Inv-loop μ-loop) → c .before .loop .from + begun c .args .cols ≤ length (c .before .loop .matrix)
-inside c = row-end (c .before .loop .inv) (c .loop-test .taken)
-
--- the powers keep their length
-powers-long : (c : tie.After-point-powers Inv-loop μ-loop) →
-    let a = begun (turn (pointed c)) .args in length (c .point-powers .last .0) ≡ length (a .degrees .now) * a .size
-powers-long c =
-    let i = turn (pointed c) .before .loop .inv in
-    c .point-powers .kept .0 ∙ i .powers-same ∙ i .shape .powers-long
+table-long : (c : tie.After-fill-products2) → length (c .fill-products2 .last .0) ≡ length (more (c .before .before) .args .products .now)
+table-long c = ap length (c .fill-products2 .ensures) ∙ length-tabulate _ _
 
 pub fill-matrix-spec : {M : Type 1} → statement M
 fill-matrix-spec =
     tie.close
     (tie.spec
-    Inv-loop
-    μ-loop
-    (λ c.
-    let p = start c .pre in
-    rows-start (record {
-      point-long = p .0 .0;
-      powers-long = p .0 .1;
-      narrow = p .0 .2;
-      whole = p .1 .0 .0;
-      columns-long = p .1 .0 .1;
-      small = p .1 .1;
-    }))
-    (λ c κs. let i = c .before .before .loop .inv in i .point-same ∙ i .shape .point-long)
+    (λ c κs. search needs)
     (λ c κs.
-    let k = c .before .before .before .before in
-    let t = turn k in
-    let i = t .before .loop .inv in
-    i .powers-same ∙ i .shape .powers-long ∙ ap (_* begun t .args .size) (sym (k .coordinates .kept .0 ∙ i .point-same ∙ i .shape .point-long)))
+    let f = rows c in
+    let s = one (f .before .before) in
+    let a = s .args in
+    let long = rows-long f in (
+      (long ∙ s .pre .1 .0 .0, width-high (a .bitwidth) (s .pre .0 .1)),
+      f .fill-products .ensures ∙ ap (λ (n : ℕ). tabulate n (flat (a .cols) (fallen (a .bitwidth)))) (sym long),
+    ))
+    (λ c. search needs)
     (λ c.
-    let t = turn (pointed (c .before .before)) in
-    omega (arith, inside t, t .before .loop .inv .filled .same, begun t .good .0 .0))
-    (λ c.
-    let t = turn (pointed (c .before .before)) in
-    omega (arith, inside t, t .before .loop .inv .filled .same, begun t .good .0 .0))
-    (λ c. search needs) (λ c. search needs)
-    (λ c. inside (turn (pointed (c .before .before))))
-    (λ c. search needs) (λ c. search needs)
+    let k = c .before .before in
+    let f = rows (weighing k) in
+    let t = f .before .before in
+    let s = one t in
+    let a = s .args in
+    let p = s .pre in
+    let single : length (a .grid .now) ≡ 1 = omega (arith, t .if1 .taken) in
+    let E : ℕ → ℕ → ℕ = λ i j. (at (a .weights .now) i * fallen (a .bitwidth) i j) % 2 ^ a .bitwidth in
+    let columns-long : length (a .columns .now) ≡ a .cols = omega (arith, p .1 .0 .1, ap (a .cols *_) single) in
+    k .weigh-rows .ensures
+    ∙ ap (λ (n : ℕ). tabulate n (flat (a .cols) E)) (rows-long f)
+    ∙ flat-eq E (weighed (a .bitwidth) (a .grid .now) (a .columns .now) (a .weights .now)) (length (a .weights .now)) (a .cols) _ (p .1 .0 .0)
+    (λ i j h l.
+    one-weighed (a .bitwidth) (a .grid .now) (a .columns .now) (a .weights .now) single (p .1 .1 .1 .0 single) i j
+    (lt-of-lt-of-le h (le-of-eq (p .0 .2))) (lt-of-lt-of-le l (le-of-eq (sym columns-long)))))
+    (λ c κs. search needs)
     (λ c κs.
-    let k = powered (c .before) in
-    let t = turn (pointed k) in
-    let i = t .before .loop .inv in
-    ((le-of-eq (sym (powers-long k)), row-columns i (t .loop-test .taken), i .shape .narrow), i .shape .small))
-    (λ c. search needs) (λ c. search needs)
-    (λ c.
-    let f = filled c in
-    let k = powered (f .before .before) in
-    let o = pointed k in
-    let t = turn o in
-    let l = t .before .loop in
-    rows-next (l .inv) (t .loop-test .taken) _ _ _ (k .point-powers .kept .0) (o .coordinates .kept .0)
-    (f .fill-row .ensures (digits (begun t .args .degrees .now) (l .i))
-    (point-powers (l .inv) (t .loop-test .taken) _ (k .point-powers .last .0) (o .coordinates .ensures) (k .point-powers .ensures))))
-    (λ c. c .before .loop .inv .filled .same)
-    (λ c. c .before .loop .inv .powers-same)
-    (λ c. c .before .loop .inv .point-same)
-    (λ c. rows-done (c .before .loop .inv) (c .loop-test .left)))
+    let f = table c in
+    let t = f .before .before in
+    let s = more t in
+    let a = s .args in
+    let p = s .pre in
+    let long = table-long f in
+    let many : 1 < length (a .grid .now) = omega (arith, p .0 .3, t .if1 .left) in (
+      (p .1 .0 .0, p .1 .0 .1, width-high (a .bitwidth) (p .0 .1)),
+      (
+        (
+          p .0 .2,
+          p .0 .3,
+          products-hold (a .bitwidth) (a .size)
+              (f .fill-products2 .ensures ∙ ap (λ (n : ℕ). tabulate n (flat (a .size) (fallen (a .bitwidth)))) (sym long)),
+        ),
+        (
+          p .1 .1 .0,
+          λ j h. le-trans (mul-le-mul-right (a .size) (omega (arith, p .1 .1 .1 .1 many j h))) (le-of-eq (sym (long ∙ p .0 .0))),
+        ),
+      ),
+    ))
+    (λ c. search needs)
+    (λ c. search needs)
+    (λ c. search needs))

@@ -1,5 +1,5 @@
 -- The call of itself is not made: its tests say that the fit is a small one, which is not let in. There are at most 256 columns of at most 20 exponents
--- each and 512 powers, so that the room is enough; the promise is `fit_with`'s.
+-- each and 362 falling factorials, so that the room is enough; the promise is `fit_with`'s.
 use Prim.Native.Nat.{ℕ, _*_, _≤_, _<_}
 use borrow.Author.Needs.{needs}
 use mathlib.Core.Path.{sym}
@@ -58,13 +58,13 @@ lists t s = lists-few 256 (s .pre .1 .1 .0 .columns-few) (s .pre .1 .0 .variable
 pub +fit-large-spec : {M : Type 1} → statement M
 +fit-large-spec =
     close μ λ t. lts.spec (claims t) (entry t) reads.Post
-    (λ c. record { fits = omega (arith, start t c .pre .1 .0 .powers-few) })
+    (λ c. record { fits = omega (arith, start t c .pre .1 .0 .products-few) })
     (λ c. record { fits = omega (arith, lists t (start t c)) })
     (λ c κs. never t (small t c))
     (λ c κs. search needs) (λ c. search needs) (λ c. search needs) (λ c. search needs)
     (λ c. never t (done t c))
-    (λ c. start t (c .before) .pre .1 .0 .powers-few)
-    (λ c. sym (length-take-le _ _ (start t (c .before .before) .pre .1 .0 .powers-few)))
+    (λ c. start t (c .before) .pre .1 .0 .products-few)
+    (λ c. sym (length-take-le _ _ (start t (c .before .before) .pre .1 .0 .products-few)))
     (λ c. lists t (start t (c .before .before)))
     (λ c. sym (length-take-le _ _ (lists t (start t (c .before .before .before)))))
     (λ c. search needs)
@@ -73,7 +73,7 @@ pub +fit-large-spec : {M : Type 1} → statement M
     let s = start t (lent t c) in
     let p = s .pre .1 in (
       p .0,
-      rooms-hold (length (s .args .degrees .now)) (s .args .size) (replicate 512 0) (replicate 5120 0) (replicate 256 0) (p .0 .powers-few) (lists t s)
+      rooms-hold (length (s .args .degrees .now)) (s .args .side * s .args .size) (replicate 362 0) (replicate 5120 0) (replicate 256 0) (p .0 .products-few) (lists t s)
           (p .1 .0 .columns-few) (p .1 .0),
     ))
     (λ c. search needs) (λ c. search needs) (λ c. search needs) (λ c. search needs)

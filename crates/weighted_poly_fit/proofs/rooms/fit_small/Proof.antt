@@ -35,7 +35,7 @@ fit-small-spec =
     let s = start (lent c) in
     let p = s .pre in (
       p .0,
-      rooms-hold (length (s .args .degrees .now)) (s .args .size) (replicate 64 0) (replicate 320 0) (replicate 16 0) (p .1 .1 .1) (lists s)
+      rooms-hold (length (s .args .degrees .now)) (s .args .side * s .args .size) (replicate 64 0) (replicate 320 0) (replicate 16 0) (p .1 .1 .1) (lists s)
           (p .1 .1 .0) (p .1 .0),
     ))
     (λ c. search needs) (λ c. search needs) (λ c. search needs)

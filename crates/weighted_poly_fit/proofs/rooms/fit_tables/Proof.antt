@@ -17,7 +17,7 @@ fit-tables-spec =
     let p = start (b .before) .pre in
     (p .0, (p .1, λ l. absurd (lt-irrefl 16 (lt-of-lt-of-le (b .if1 .taken) l)))))
     (λ c. search needs) (λ c. search needs) (λ c. search needs) (λ c. search needs)
-    (λ c. record { fits = omega (arith, start (c .before) .pre .0 .powers-few) })
+    (λ c. record { fits = omega (arith, start (c .before) .pre .0 .products-few) })
     (λ c κs.
     let b = c .before .before .before in
     let p = start (b .before .before) .pre in

@@ -1,13 +1,14 @@
 -- The columns are listed, then the matrix and the right side are filled; together they have the system of the fit.
 use borrow.Author.Needs.{needs}
-use mathlib.Core.Path.{sym, ap, ap₂, subst, _∙_}
+use mathlib.Core.Path.{_≡_, sym, ap, ap₂, subst, _∙_}
 use mathlib.Core.List.{List}
 use Prim.Native.Nat.{ℕ, _*_, _<_}
+use native.Mathlib.Nat.{lt-of-lt-of-le, le-of-eq}
 use lib.ListN.{length}
 use lib.Seq.{length-take-le}
 use Rattle.meaning.specs.Tables.{at}
 use Rattle.weighted_poly_fit.proofs.Listed.{length-columns-joined}
-use Rattle.weighted_poly_fit.proofs.FitMatrix.{columns-small}
+use Rattle.weighted_poly_fit.proofs.FitMatrix.{columns-small, columns-one-at}
 use Rattle.weighted_poly_fit.proofs.FitSystems.{filled-system}
 use Rattle.weighted_poly_fit.proofs.systems.fill_system.Statement.{statement}
 use Rattle.weighted_poly_fit.proofs.systems.fill_system.Tie as tie
@@ -20,7 +21,7 @@ abbrev listed : tie.After-fill-matrix-arg3 → tie.After-enumerate-basis
 listed c = c .before .before .before .before .before .before
 
 abbrev filled : tie.After-fill-right → tie.After-fill-matrix
-filled c = c .before .before .before .before .before .before .before
+filled c = c .before .before .before .before .before .before
 
 pub fill-system-spec : {M : Type 1} → statement M
 fill-system-spec =
@@ -32,20 +33,24 @@ fill-system-spec =
     let s = start c in
     let p = s .pre in
     (length-take-le _ _ (p .0 .variables-few), p .1 .0 .1 ∙ ap (_* length (s .args .degrees .now)) (p .1 .0 .0)))
-    (λ c. search needs)
-    (λ c. sym (length-take-le _ _ (start (listed (c .before) .before) .pre .0 .variables-few)))
     (λ c κs.
-    let l = listed (c .before) in
+    let l = listed c in
     let s = start (l .before) in
     let p = s .pre in
     let h = p .0 in
     let ds = s .args .degrees .now in
     let size = s .args .size in
     let e = l .enumerate-basis .ensures in (
-      (length-take-le _ _ (h .variables-few) ∙ sym (h .same), p .1 .1 .2 ∙ ap (_* size) (sym (h .same)), h .high),
+      (p .1 .1 .2, h .fits, p .1 .1 .3, lt-of-lt-of-le (h .some) (le-of-eq (sym (h .same)))),
       (
         (p .1 .1 .0, ap length e ∙ length-columns-joined ds (s .args .most) ∙ ap₂ _*_ (sym (p .1 .0 .0)) (sym (h .same))),
-        subst (λ (t : List ℕ). (i : ℕ) → i < length t → at t i < size) (sym e) (columns-small ds (s .args .most) size (h .below)),
+        (
+          subst (λ (t : List ℕ). (i : ℕ) → i < length t → at t i < size) (sym e) (columns-small ds (s .args .most) size (h .below)),
+          (
+            λ one. subst (λ (t : List ℕ). (i : ℕ) → i < length t → at t i ≡ i) (sym e) (columns-one-at ds (s .args .most) (sym (h .same) ∙ one)),
+            h .grid-below,
+          ),
+        ),
       ),
     ))
     (λ c κs. search needs)
@@ -53,7 +58,7 @@ fill-system-spec =
     (λ c.
     let r = c .before .before in
     let m = filled r in
-    let l = listed (m .before .before) in
+    let l = listed (m .before) in
     let s = start (l .before) in
     let p = s .pre in
     let a = s .args in
