@@ -34,11 +34,11 @@
  * bytes. Entries are uint64_t, aligned as in C; in keys and exponent lists they are uint8_t. A
  * table without entries has length 0, and its pointer may be NULL. A table that a call writes must
  * not overlap another table of the call, nor *value. Two tables that are only read may be the same.
- * What is said of *value holds of each number that the calls of room write.
+ * What is said of *value holds of each number that the calls of room and of falling products write.
  *
  * A table that crosses as a pointer to const is never altered. Every length but that of a key's
- * exponent list is held to the exact one: a table that is too long is COBRA_WRONG_LENGTH as one
- * that is too short.
+ * exponent list, and of the table of falling products, which may have any, is held to the exact
+ * one: a table that is too long is COBRA_WRONG_LENGTH as one that is too short.
  *
  * WHAT A CALL ANSWERS
  *
@@ -462,6 +462,38 @@ uint32_t cobra_odd_part_factorial(uint32_t k, uint32_t width, uint64_t *value);
 /* value gets the number below 2^bits whose product with x is 1 modulo 2^bits. COBRA_OUT_OF_RANGE: x
  * is even or bits is not 1 to 64; value is 0. */
 uint32_t cobra_mod_inverse_odd(uint64_t x, uint32_t bits, uint64_t *value);
+
+/*
+ * The falling product of n factors, x * (x-1) * .. * (x-n+1), modulo 2^width. It stops as soon as
+ * it is 0, since whatever factors follow it stays 0.
+ *
+ * x, n     any numbers; the product of 0 factors is 1
+ * width    2 to 64
+ * value    gets the product of all n factors, below 2^width
+ * factors  gets how many were taken: the least number of leading factors whose product is 0, or n
+ *          where there is none. It is never above n, x+1 or cobra_degree_cap of the width, so that
+ *          the call is short however large n is. It needs a place of its own.
+ *
+ * x = 5, n = 3 at width 8 gives 60 with 3 factors, x = 3, n = 7 gives 0 with 4.
+ *
+ * COBRA_OUT_OF_RANGE: width is not 2 to 64; value and factors are 0.
+ */
+uint32_t cobra_falling_product(uint64_t x, uint64_t n, uint32_t width,
+                               uint64_t *value, uint64_t *factors);
+
+/*
+ * The falling products of x with 0, 1, 2, .. factors, modulo 2^width.
+ *
+ * width    2 to 64
+ * table    any number of entries: entry n gets the product of n factors, as above. They are
+ *          multiplied up to the first that is 0; all behind it are 0.
+ * factors  gets how many factors were taken, as above for n = table_len - 1; 0 where the table has
+ *          no entry
+ *
+ * COBRA_OUT_OF_RANGE: width is not 2 to 64; table is as it was and factors is 0.
+ */
+uint32_t cobra_falling_products(uint64_t x, uint32_t width,
+                                uint64_t *table, size_t table_len, uint64_t *factors);
 
 /*
  * The Stirling numbers up to degree, modulo 2^width.
