@@ -50,6 +50,7 @@ void check_at_least(const char *what, unsigned long least, unsigned long got);
 void part_refusals(void);
 void part_lengths(void);
 void part_room(void);
+void part_falling(void);
 void part_stack(void);
 
 #endif

@@ -96,6 +96,8 @@ static void *boxes(void *arg)
     cobra_stirling_first_kind(255, 64, c, 65536);
     cobra_odd_part_factorial(255, 64, &at);
     cobra_mod_inverse_odd(3, 64, &at);
+    cobra_falling_product(UINT64_MAX, UINT64_MAX, 64, &at, &made);
+    cobra_falling_products(UINT64_MAX, 64, c, 65536, &at);
     cobra_key_from_exponents(first, 20, 20, second, 20);
     cobra_key_with_exponent(second, 20, 19, 255);
     cobra_key_to_exponents(second, 20, out, 20, 20);

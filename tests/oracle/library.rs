@@ -14,6 +14,20 @@ extern "C" {
     pub fn cobra_degree_cap(width: u32, value: *mut u64) -> u32;
     pub fn cobra_odd_part_factorial(k: u32, width: u32, value: *mut u64) -> u32;
     pub fn cobra_mod_inverse_odd(x: u64, bits: u32, value: *mut u64) -> u32;
+    pub fn cobra_falling_product(
+        x: u64,
+        n: u64,
+        width: u32,
+        value: *mut u64,
+        factors: *mut u64,
+    ) -> u32;
+    pub fn cobra_falling_products(
+        x: u64,
+        width: u32,
+        table: *mut u64,
+        len: usize,
+        factors: *mut u64,
+    ) -> u32;
     pub fn cobra_stirling_second_kind(
         max_degree: u8,
         width: u32,

@@ -13,6 +13,7 @@ mod differences;
 mod differences_boxes;
 mod differences_leaves;
 mod differences_solving;
+mod falling;
 mod fit;
 mod group;
 mod ir;
@@ -47,6 +48,7 @@ fn groups() -> Vec<(&'static Group, bool)> {
     groups.extend(definitions::GROUPS.map(always));
     groups.extend(leaves_arith::GROUPS.map(always));
     groups.extend(leaves_math::GROUPS.map(always));
+    groups.extend(falling::GROUPS.map(always));
     groups.extend(leaves_mono::GROUPS.map(always));
     groups.extend(box_calls::GROUPS);
     groups.extend(sameness::GROUPS);
@@ -208,6 +210,7 @@ fn selftest(groups: &[(&Group, bool)], seed: u64, cases: u64) -> bool {
 fn refutes_what_is_false(seed: u64, cases: u64) -> bool {
     let mut all = true;
     let statements = beyond::REFUTED.into_iter().chain(room::REFUTED).chain(sameness::REFUTED);
+    let statements = statements.chain(falling::REFUTED.map(always));
     for (group, _) in statements.filter(|(_, here)| *here) {
         match judge(group, seed, cases, Plant::Nothing).failure {
             Some((_, smallest)) => show(group, "false, and refuted", &smallest),

@@ -29,6 +29,8 @@ const NARROW: [Shape; 3] = [(2, 6, 15), (3, 4, 7), (2, 9, 31)];
 const MIDDLE: [Shape; 3] = [(2, 4, 15), (1, 60, 66), (1, 63, 63)];
 /// The second has columns that are zero at all points, and so no answer.
 const WIDER: [Shape; 2] = [(1, 60, 200), (1, 255, 255)];
+/// At most points of these grids most falling factorials of the columns are zero.
+const ZEROS: [Shape; 3] = [(8, 8, 1), (4, 12, 3), (2, 15, 15)];
 /// Four rows to a column.
 const GROWTH: [Shape; 6] = [(1, 1, 7), (1, 3, 15), (1, 7, 31), (1, 15, 63), (1, 31, 127), (1, 63, 255)];
 
@@ -40,7 +42,7 @@ enum Weights {
 }
 
 pub fn time(session: &mut Session) {
-    let all = [&SMALL[..], &MIDDLE, &NARROW, &WIDER].concat();
+    let all = [&SMALL[..], &MIDDLE, &NARROW, &WIDER, &ZEROS].concat();
     let tall = [&SMALL[..], &NARROW, &WIDER[..1]].concat();
     for (weights, wide) in [(Weights::Odd, all), (Weights::Any, tall)] {
         for shape in wide {

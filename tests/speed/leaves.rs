@@ -1,4 +1,4 @@
-//! Both Stirling tables, and leaves called by pointer for a row of arguments.
+//! Both Stirling tables, falling products, and leaves called by pointer for a row of arguments.
 
 use crate::core::arith;
 use crate::ir::math_utils as rust;
@@ -11,6 +11,8 @@ use std::hint::black_box;
 extern "C" {
     fn limit_stirling1(degree: u8, width: u32, table: *mut u64);
     fn limit_stirling2(degree: u8, width: u32, table: *mut u64);
+    fn limit_falling_product(x: u64, n: u64, width: u32, factors: *mut u64) -> u64;
+    fn limit_falling_products(x: u64, width: u32, table: *mut u64, len: usize) -> u64;
     fn limit_bitmask(width: u32) -> u64;
     fn limit_wrapping_mul(a: u64, b: u64) -> u64;
     fn limit_mod_add(a: u64, b: u64, width: u32) -> u64;
@@ -36,6 +38,8 @@ pub fn time(session: &mut Session) {
         let inputs = DEGREES.iter().map(|&degree| (named(degree), WIDE)).collect();
         session.series.push(Series { call, grows: "degree", steps: "d (d + 1) / 2", inputs });
     }
+    FALLING.iter().for_each(|row| falling(session, row));
+    FALLING_TABLES.iter().for_each(|&(length, width)| falling_table(session, length, width));
     leaves(session);
 }
 
@@ -65,6 +69,71 @@ fn table(session: &mut Session, call: &'static str, (rust, limit, library): Kind
         Input { call, shape: named(degree), size, width, steps, listed },
         Programs {
             rust: Some(&mut run(by_rust)),
+            beside: None,
+            c: &mut run(|| by_limit(black_box(&mut plain))),
+            ours: &mut run(|| by_library(black_box(&mut ours))),
+        },
+    );
+}
+
+/// Falling products of many numbers: what they are, x out of any number, how many factors are asked for, the width.
+type Falling = (&'static str, fn(u64) -> u64, u64, u32);
+
+/// 60 factors have 56 twos at least and mostly fewer than 64, so that at width 64 nearly all are taken; 66 have 64 twos.
+const FALLING: [Falling; 6] = [
+    ("any x, 4 factors", |x| x, 4, WIDE),
+    ("any x, 60 factors", |x| x, 60, WIDE),
+    ("any x, 2^64 - 1 factors", |x| x, u64::MAX, WIDE),
+    ("x below 16, 2^64 - 1 factors", |x| x % 16, u64::MAX, WIDE),
+    ("any x, 4 factors", |x| x, 4, 8),
+    ("any x, 60 factors", |x| x, 60, 8),
+];
+
+fn falling(session: &mut Session, &(what, x_of, n, width): &Falling) {
+    let mut r = Random::new(1, "speed of falling products");
+    let xs: Vec<u64> = (0..CALLS).map(|_| x_of(r.next())).collect();
+    let all = |product: fn(u64, u64, u32) -> [u64; 2]| {
+        let (product, n, width) = (black_box(product), black_box(n), black_box(width));
+        xs.iter().fold([0u64; 2], |[sum, taken], &x| {
+            let [value, factors] = product(x, n, width);
+            [sum.wrapping_mul(3).wrapping_add(value), taken + factors]
+        })
+    };
+    let by_limit: fn(u64, u64, u32) -> [u64; 2] = |x, n, width| {
+        let mut factors = 0;
+        let value = unsafe { limit_falling_product(x, n, width, &mut factors) };
+        [value, factors]
+    };
+    let by_library: fn(u64, u64, u32) -> [u64; 2] = |x, n, width| {
+        let (mut value, mut factors) = (0, 0);
+        unsafe { library::cobra_falling_product(x, n, width, &mut value, &mut factors) };
+        [value, factors]
+    };
+    let found = all(by_library);
+    check(found == all(by_limit), "the library's falling products are not the C's");
+    let shape = format!("{CALLS} calls, {what}");
+    session.time(
+        Input { call: "falling_product", shape, size: CALLS, width, steps: found[1], listed: true },
+        Programs { rust: None, beside: None, c: &mut run(|| all(by_limit)), ours: &mut run(|| all(by_library)) },
+    );
+}
+
+/// Entries of the table, and the width.
+const FALLING_TABLES: [(usize, u32); 5] = [(4, WIDE), (16, WIDE), (66, WIDE), (256, WIDE), (256, 8)];
+
+fn falling_table(session: &mut Session, length: usize, width: u32) {
+    let x = Random::new(1, "speed of falling products").next();
+    let by_limit = |out: &mut [u64]| unsafe { limit_falling_products(black_box(x), width, out.as_mut_ptr(), length) };
+    let by_library = |out: &mut [u64]| {
+        valued(|taken| unsafe { library::cobra_falling_products(black_box(x), width, out.as_mut_ptr(), length, taken) })
+    };
+    let (mut ours, mut plain) = (vec![1; length], vec![1; length]);
+    let taken = by_library(&mut ours);
+    check(taken == by_limit(&mut plain) && ours == plain, "the library's table of falling products is not the C's");
+    session.time(
+        Input { call: "falling_products", shape: "any x".into(), size: length, width, steps: taken, listed: true },
+        Programs {
+            rust: None,
             beside: None,
             c: &mut run(|| by_limit(black_box(&mut plain))),
             ours: &mut run(|| by_library(black_box(&mut ours))),

@@ -1,4 +1,4 @@
-/* Both Stirling tables and the leaves in plain C. */
+/* Both Stirling tables, falling products and the leaves in plain C. */
 
 #include "limit.h"
 
@@ -24,6 +24,36 @@ void limit_stirling1(uint8_t degree, uint32_t width, uint64_t *table)
         for (size_t j = 1; j <= i; j++)
             table[i * side + j] = (above[j - 1] - (i - 1) * above[j]) & low_bits(width);
     }
+}
+
+uint64_t limit_falling_product(uint64_t x, uint64_t n, uint32_t width, uint64_t *factors)
+{
+    uint64_t mask = low_bits(width), product = 1, taken = 0;
+    while (taken < n) {
+        product *= x - taken++;
+        if ((product & mask) == 0)
+            break;
+    }
+    *factors = taken;
+    return product & mask;
+}
+
+uint64_t limit_falling_products(uint64_t x, uint32_t width, uint64_t *table, size_t len)
+{
+    uint64_t mask = low_bits(width), product = 1;
+    size_t taken = 0;
+    if (len == 0)
+        return 0;
+    table[0] = 1;
+    while (taken + 1 < len) {
+        product *= x - taken++;
+        table[taken] = product & mask;
+        if (table[taken] == 0) {
+            memset(table + taken, 0, (len - taken) * sizeof *table);
+            break;
+        }
+    }
+    return taken;
 }
 
 uint64_t limit_bitmask(uint32_t width)
