@@ -1,3 +1,5 @@
--- What the calls answer, in each of their three cases (Replies), the value of a box by its sub-boxes (BoxValues).
+-- What the calls answer, in each of their three cases (Replies), the table of a point's falling products (PointProducts), the value of a box by its
+-- sub-boxes (BoxValues).
 pub mod Replies
+pub mod PointProducts
 pub mod BoxValues

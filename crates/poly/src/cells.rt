@@ -1,31 +1,50 @@
-// The value of a box. The sub-boxes of the last variable lie one after the other, so that the walk over the cells is a recursion over the last variable and
-// lends on parts.
+// The value of a box, from the falling products of a point's coordinates in a table. The sub-boxes of the last variable lie one after the other, so that the
+// walk over the cells is a recursion over the last variable and lends on parts.
 ghost use mathlib.Core.Path.{_≡_};
-ghost use Prim.Native.Nat.{_^_, _≤_};
+ghost use Prim.Native.Nat.{_*_, _%_, _^_, _≤_};
 ghost use lib.ListN.{length};
-ghost use Rattle.meaning.specs.Boxes.{cells};
-ghost use Rattle.meaning.specs.Values.{value};
+ghost use Rattle.meaning.specs.Tables.{at};
+ghost use Rattle.meaning.specs.Sums.{sum};
+ghost use Rattle.poly.specs.Shapes.{Shaped, HasValue};
 
-// The value modulo 2^64 of a coefficient box at a point, of which as many coordinates count as there are degrees.
-pub(crate) fn box_value(coeffs: &[u64], degrees: &[u8], point: &[u64]) -> u64
-    requires { ⌜ (length (now coeffs) ≡ cells (now degrees)) × (length (now degrees) ≤ length (now point)) ⌝ }
-    ensures { λ r. ⌜ r ≡ value (2 ^ 64) (now (degrees .entry)) (now (coeffs .entry)) (now (point .entry)) ⌝ }
+// The sum, modulo 2^64, of the coefficients of a line, each times the falling product to its exponent.
+fn line_value(coeffs: &[u64], products: &[u64]) -> u64
+    requires { ⌜ length (now coeffs) ≤ length (now products) ⌝ }
+    ensures { λ r. ⌜ r ≡ sum (length (now (coeffs .entry))) (λ i. at (now (products .entry)) i * at (now (coeffs .entry)) i) % 2 ^ 64 ⌝ }
 {
-    if degrees.len() == 0 {
-        return coeffs[0];
+    let mut sum: u64 = 0;
+    let mut i = 0;
+    while i < coeffs.len() {
+        sum = std::num::wrapping_add_u64(sum, arith::wrapping_mul(products[i], coeffs[i]));
+        i += 1;
+    }
+    sum
+}
+
+// A number that has the value of a coefficient box in its low bits: of as many bits as the falling products have, which stand in `products`, `size` places
+// for each variable. Where a falling product of the last variable is zero, so are those behind it, and no more sub-boxes are looked into.
+pub(crate) fn box_value(coeffs: &[u64], degrees: &[u8], products: &[u64], size: usize) -> u64
+    requires { ⌜ Shaped size (now degrees) (now coeffs) ⌝ }
+    requires { ⌜ length (now degrees) * size ≤ length (now products) ⌝ }
+    ensures { λ r. ⌜ HasValue size (now (degrees .entry)) (now (coeffs .entry)) (now (products .entry)) r ⌝ }
+{
+    if degrees.len() == 1 {
+        return line_value(coeffs, products);
     }
     let last = degrees.len() - 1;
-    let size = coeffs.len() / (degrees[last] as usize + 1);
-    let x = point[last];
+    let count = coeffs.len() / (degrees[last] as usize + 1);
+    let row = last * size;
     let mut sum: u64 = 0;
-    let mut falling: u64 = 1;
-    let mut e: u64 = 0;
+    let mut e = 0;
     let mut from = 0;
     while from < coeffs.len() {
-        let end = from + size;
-        let inner = box_value(&coeffs[from..end], &degrees[..last], point);
+        let falling = products[row + e];
+        if falling == 0 {
+            return sum;
+        }
+        let end = from + count;
+        let inner = box_value(&coeffs[from..end], &degrees[..last], products, size);
         sum = std::num::wrapping_add_u64(sum, arith::wrapping_mul(falling, inner));
-        falling = math_utils::next_falling(falling, x, e);
         e += 1;
         from = end;
     }

@@ -10,6 +10,7 @@ ghost use Rattle.demand3.specs.Promises.{Valued, Judged, Summed, Reduced};
 ghost use Rattle.answers.specs.Said.{said, saidNumber, saidTruth};
 
 mod cells;
+mod rooms;
 
 use answers::Number;
 use answers::Outcome;
@@ -77,8 +78,8 @@ pub fn value(
                 return Number::Refused(Refusal::WrongLength);
             }
             let degrees = [max_degree; 20];
-            let whole = cells::box_value(coeffs, &degrees[..support.len()], point);
-            Number::Value(whole & arith::bitmask(bitwidth))
+            let size = max_degree as usize + 1;
+            Number::Value(rooms::value_at(coeffs, &degrees[..support.len()], point, size, bitwidth))
         }
     }
 }
