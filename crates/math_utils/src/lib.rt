@@ -1,6 +1,6 @@
-// Counts of twos, odd parts and inverses modulo powers of two, and both tables of Stirling numbers.
+// Counts of twos, odd parts and inverses modulo powers of two, falling products, and both tables of Stirling numbers.
 ghost use mathlib.Core.Path.{_≡_};
-ghost use Prim.Native.Nat.{_*_, _-_, _%_, _^_, _≤_};
+ghost use Prim.Native.Nat.{_*_, _%_, _^_, _≤_};
 ghost use Rattle.meaning.specs.Factorials.{factorial, twos, degreeCap};
 ghost use Rattle.meaning.specs.Inverses.{inverse};
 ghost use Rattle.meaning.specs.Leaves.{capReply, oddPartReply, inverseReply};
@@ -20,16 +20,6 @@ pub fn twos_in_factorial(k: u32) -> u32
     ensures { λ r. ⌜ r ≡ twos (factorial k) ⌝ }
 {
     k - u32::count_ones(k)
-}
-
-// The falling factorial of x with one factor more, modulo 2^64: after the e factors x, x - 1, .. comes x - e, or 0 from e = x on.
-pub fn next_falling(before: u64, x: u64, e: u64) -> u64
-    ensures { λ r. ⌜ r ≡ (before * (x - e)) % 2 ^ 64 ⌝ }
-{
-    if x <= e {
-        return 0;
-    }
-    arith::wrapping_mul(before, x - e)
 }
 
 // How many bits of a coefficient count where the factorials have `weight` twos.

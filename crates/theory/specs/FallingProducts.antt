@@ -1,12 +1,18 @@
 -- Falling products modulo m, taken factor by factor until they are zero: one step, when to stop, and how many factors there are at most.
 use mathlib.Core.Path.{_≡_, refl, sym, ap, subst, _∙_}
 use mathlib.Core.Logic.{_⊎_, inl, inr}
+use mathlib.Core.Bool.{true}
+use mathlib.Core.List.{List}
 use Prim.Native.Nat.{ℕ, zero, suc, _+_, _-_, _*_, _%_, _^_, _≤_, _<_, zero-le}
 use native.Mathlib.Nat.{not-suc-le-zero, eq-or-lt-of-le, le-of-suc-le-suc, le-of-lt, lt-of-not-le, lt-irrefl, lt-of-lt-of-le, zero-lt-suc, zero-mod, mod-eq-of-lt, mul-assoc, mul-mod-right, add-zero}
 use native.Mathlib.Numerals.{add-one}
 use native.Mathlib.Decide.{decLe}
 use native.Mathlib.Omega.{arith}
+use lib.ListN.{length}
 use lib.Pow.{pow-add}
+use Rattle.meaning.specs.Tables.{tabulate}
+use Rattle.meaning.specs.Settings.{widthFits}
+use Rattle.meaning.specs.Leaves.{productsLeft}
 use Rattle.meaning.specs.Factorials.{factorial, falling, takenFrom, taken, twos, oddPart, degreeCap}
 use Rattle.theory.specs.Congruence.{cong-mul-right, mod-cong}
 use Rattle.theory.specs.Twos.{twos-oddPart}
@@ -35,6 +41,10 @@ module _ (m x : ℕ) where
       go : (k ≡ suc n) ⊎ (k < suc n) → (k ≤ n → falling x n % m ≡ 0) → falling x (suc n) % m ≡ 0
       go (inl q) rest = subst (λ (i : ℕ). falling x i % m ≡ 0) q e
       go (inr l) rest = subst (λ (i : ℕ). falling x i % m ≡ 0) (add-one n) (zero-next n (rest (le-of-suc-le-suc l)))
+
+-- what the leaf leaves in a table, at a width that fits
+pub products-left : (w x : ℕ) (t : List ℕ) {ys : List ℕ} → widthFits w ≡ true → ys ≡ productsLeft w x t → ys ≡ tabulate (length t) (λ n. falling x n % 2 ^ w)
+products-left w x t f e = e ∙ simp f
 
 -- ---- how many factors are taken
 

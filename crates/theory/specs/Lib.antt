@@ -47,6 +47,7 @@ pub mod Elimination
 pub mod Echelon
 pub mod StepLaws
 pub mod MatrixTables
+pub mod FilledRows
 pub mod BackSubstitution
 pub mod SolverLaws
 pub mod ColumnOrder

@@ -11,7 +11,8 @@ use Rattle.theory.specs.Tables.{length-tabulate}
 use Rattle.theory.specs.Ranges.{width-high}
 use Rattle.theory.specs.MatrixTables.{flat}
 use Rattle.weighted_poly_fit.specs.Entries.{weighed, fallen}
-use Rattle.weighted_poly_fit.proofs.MatrixRows.{products-hold, flat-eq}
+use Rattle.theory.specs.FilledRows.{flat-eq}
+use Rattle.weighted_poly_fit.proofs.MatrixRows.{products-hold}
 use Rattle.weighted_poly_fit.proofs.MatrixColumns.{one-weighed}
 use Rattle.weighted_poly_fit.proofs.matrix.fill_matrix.Tie as tie
 

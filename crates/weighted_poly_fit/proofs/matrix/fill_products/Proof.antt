@@ -7,7 +7,8 @@ use lib.ListN.{length}
 use mathlib.Core.Path.{refl}
 use Rattle.theory.specs.Parts.{part}
 use Rattle.weighted_poly_fit.specs.Entries.{fallen}
-use Rattle.weighted_poly_fit.proofs.MatrixRows.{Rows, rows-start, row-end, rows-rule, rows-done, fallen-row}
+use Rattle.theory.specs.FilledRows.{Rows, rows-start, row-end, rows-rule, rows-done}
+use Rattle.theory.specs.FallingProducts.{products-left}
 use Rattle.weighted_poly_fit.proofs.matrix.fill_products.Tie as tie
 
 abbrev Inv-loop : tie.InvT-loop
@@ -51,6 +52,6 @@ fill-products-spec =
     let l = t .before .loop in
     let a = start (t .before) .args in
     rows-rule (l .inv) (t .loop-test .taken) _ (fallen (a .bitwidth) (l .x))
-    (fallen-row _ (l .x) (part (l .from) (l .from + a .size) (l .table)) (start (t .before) .pre .1) (k .falling-products .ensures .1)) (λ e l. refl))
+    (products-left _ (l .x) (part (l .from) (l .from + a .size) (l .table)) (start (t .before) .pre .1) (k .falling-products .ensures .1)) (λ e l. refl))
     (λ c. c .before .loop .inv .filled .same)
     (λ c. rows-done (c .before .loop .inv) (c .loop-test .left)))

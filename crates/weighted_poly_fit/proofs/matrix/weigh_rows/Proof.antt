@@ -9,7 +9,8 @@ use lib.ListN.{length}
 use Rattle.meaning.specs.Tables.{at}
 use Rattle.theory.specs.Parts.{part}
 use Rattle.weighted_poly_fit.specs.Entries.{fallen}
-use Rattle.weighted_poly_fit.proofs.MatrixRows.{Rows, rows-start, row-end, row-length, row-at, rows-rule, rows-done, fallen-zero-on, at-flat}
+use Rattle.theory.specs.FilledRows.{Rows, rows-start, row-end, row-length, row-at, rows-rule, rows-done, at-flat}
+use Rattle.weighted_poly_fit.proofs.MatrixRows.{fallen-zero-on}
 use Rattle.weighted_poly_fit.proofs.matrix.weigh_rows.Tie as tie
 
 abbrev Inv-loop : tie.InvT-loop
