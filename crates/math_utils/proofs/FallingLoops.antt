@@ -19,7 +19,7 @@ use Rattle.theory.specs.Ranges.{between-true, between-low, between-high}
 use Rattle.theory.specs.Words.{masked-to}
 use Rattle.theory.specs.Tables.{Filled, filled-done, eq-tabulate, length-tabulate, at-tabulate-zero}
 use Rattle.theory.specs.Parts.{part, put, length-part, filled-part}
-use Rattle.theory.specs.FallingProducts.{falling-next, zero-stays, Taken, taken-low, taken-is, taken-eq, taken-cap, Taking, taking-start, taking-low, taking-next, taking-zero, taking-all}
+use Rattle.theory.specs.FallingProducts.{falling-next, zero-stays, taken-low, taken-is, taken-eq, taken-cap, Taking, taking-start, taking-low, taking-next, taking-zero, taking-all}
 use Rattle.math_utils.specs.Falling.{Stops}
 
 -- c of n factors are taken, with the product p, and none so far is zero modulo 2^w; the mask keeps w bits

@@ -1,3 +1,3 @@
--- The entries of a Stirling table, cell by cell.
+-- The entries of a Stirling table, cell by cell (Entries), and the loops of the falling products (FallingLoops).
 pub mod Entries
-mod FallingLoops
+pub mod FallingLoops

@@ -40,14 +40,14 @@ fn value_with(
     cells::box_value(coeffs, degrees, products, size) & arith::bitmask(bitwidth)
 }
 
-// With room for 64 falling products.
+// With room for 32 falling products.
 fn value_small(coeffs: &[u64], degrees: &[u8], point: &[u64], size: usize, bitwidth: u32) -> u64
     requires { ⌜ Asked bitwidth size (now degrees) (now coeffs) (now point) ⌝ }
-    requires { ⌜ length (now degrees) * size ≤ 64 ⌝ }
+    requires { ⌜ length (now degrees) * size ≤ 32 ⌝ }
     ensures { λ r. ⌜ r ≡ value (2 ^ bitwidth) (now (degrees .entry)) (now (coeffs .entry)) (now (point .entry)) ⌝ }
 {
     let places = degrees.len() * size;
-    let mut products = [0u64; 64];
+    let mut products = [0u64; 32];
     value_with(
         coeffs,
         degrees,
@@ -58,15 +58,15 @@ fn value_small(coeffs: &[u64], degrees: &[u8], point: &[u64], size: usize, bitwi
     )
 }
 
-// With room for 512. It is for values that need more than 64, so that its call of itself is never made: that call keeps the compiler from laying the room out
+// With room for 512. It is for values that need more than 32, so that its call of itself is never made: that call keeps the compiler from laying the room out
 // in the frame of the small ones.
 fn value_large(coeffs: &[u64], degrees: &[u8], point: &[u64], size: usize, bitwidth: u32) -> u64
     requires { ⌜ Asked bitwidth size (now degrees) (now coeffs) (now point) ⌝ }
-    requires { ⌜ 64 < length (now degrees) * size ⌝ }
+    requires { ⌜ 32 < length (now degrees) * size ⌝ }
     ensures { λ r. ⌜ r ≡ value (2 ^ bitwidth) (now (degrees .entry)) (now (coeffs .entry)) (now (point .entry)) ⌝ }
 {
     let places = degrees.len() * size;
-    if places <= 64 {
+    if places <= 32 {
         let never = value_large(coeffs, degrees, point, size, bitwidth);
         return arith::wrapping_mul(never, never);
     }
@@ -92,7 +92,7 @@ pub(crate) fn value_at(
     requires { ⌜ Asked bitwidth size (now degrees) (now coeffs) (now point) ⌝ }
     ensures { λ r. ⌜ r ≡ value (2 ^ bitwidth) (now (degrees .entry)) (now (coeffs .entry)) (now (point .entry)) ⌝ }
 {
-    if 64 < degrees.len() * size {
+    if 32 < degrees.len() * size {
         return value_large(coeffs, degrees, point, size, bitwidth);
     }
     value_small(coeffs, degrees, point, size, bitwidth)

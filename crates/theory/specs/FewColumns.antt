@@ -1,6 +1,5 @@
 -- The columns of one variable are its exponents in order; of two variables or more there are so many that the products of all coordinates have a small table.
-use mathlib.Core.Path.{_≡_, refl, sym, ap, subst, _∙_}
-use mathlib.Core.Logic.{_↔_}
+use mathlib.Core.Path.{_≡_, sym, ap, subst, _∙_}
 use mathlib.Core.List.{List, [], _∷_}
 use Prim.Native.Nat.{ℕ, zero, suc, _+_, _-_, _*_, _≤_, _<_, min, zero-le}
 use native.Mathlib.Nat.{not-suc-le-zero, le-of-suc-le-suc, le-trans, le-of-eq, le-refl, lt-irrefl, lt-of-not-le, mul-le-mul, suc-sub-suc, zero-lt-suc}

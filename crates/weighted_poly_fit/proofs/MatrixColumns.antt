@@ -3,21 +3,20 @@ use mathlib.Core.Path.{_≡_, refl, sym, ap, ap₂, _∙_}
 use mathlib.Core.Logic.{_⊎_, inl, inr}
 use mathlib.Core.List.{List, [], _∷_}
 use Prim.Native.Nat.{ℕ, suc, _+_, _*_, _-_, _%_, _^_, _≤_, _<_, min, zero-le}
-use native.Mathlib.Nat.{mul-comm, one-mul, mul-assoc, mul-left-comm, mul-one, add-mul, mul-le-mul-right, le-of-eq, le-trans, lt-of-lt-of-le, lt-of-not-le, lt-irrefl, ne-of-lt, ne-of-gt, zero-mod, zero-mul, mul-zero, not-suc-le-zero, eq-or-lt-of-le, le-of-suc-le-suc, suc-ne-zero, suc-inj, zero-lt-suc}
+use native.Mathlib.Nat.{mul-comm, one-mul, mul-assoc, mul-one, mul-le-mul-right, lt-of-not-le, lt-irrefl, ne-of-lt, ne-of-gt, zero-mod, zero-mul, not-suc-le-zero, eq-or-lt-of-le, le-of-suc-le-suc, suc-ne-zero, suc-inj, zero-lt-suc}
 use native.Mathlib.Numerals.{add-one}
 use native.Mathlib.Decide.{decLe}
 use native.Mathlib.Omega.{arith}
-use lib.Arith.{digits-lt, digits-mod, digits-div}
+use lib.Arith.{digits-lt, digits-mod}
 use lib.Bits.{bitAnd}
-use lib.Pow.{pow-pos}
 use lib.ListN.{length, take, drop, set, length-set}
 use lib.Seq.{getD-set-same, getD-set-other, getD-take, getD-drop}
 use Rattle.meaning.specs.Tables.{at, tabulate}
 use Rattle.meaning.specs.Factorials.{falling}
 use Rattle.meaning.specs.Boxes.{cells, digits}
 use Rattle.meaning.specs.Values.{product}
-use Rattle.theory.specs.Congruence.{Cong, cong-refl, cong-sym, cong-trans, cong-of-eq, cong-mul, cong-mul-left, cong-mul-right, mod-cong}
-use Rattle.theory.specs.Parts.{part, put, length-part, at-part, part-entry, length-put, at-put-before, at-put-within, at-put-after}
+use Rattle.theory.specs.Congruence.{Cong, cong-sym, cong-trans, cong-of-eq, cong-mul-left, cong-mul-right, mod-cong}
+use Rattle.theory.specs.Parts.{part, put, length-part, part-entry, length-put, at-put-before, at-put-within, at-put-after}
 use Rattle.theory.specs.Words.{masked-to}
 use Rattle.theory.specs.LastVariable.{others, final, length-others, product-point}
 use Rattle.theory.specs.MatrixTables.{flat, eq-matrix}

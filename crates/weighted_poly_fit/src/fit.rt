@@ -17,8 +17,8 @@ use answers::Refusal;
 use room::sizes;
 use room::sizes::FitRoom;
 
-// A fit whose tables have their exact lengths, with room for the falling factorials of the coordinates, for the exponents and for the values of the columns. Matrix and right side
-// end as zeros.
+// A fit whose tables have their exact lengths, with room for the falling factorials of the coordinates, for the exponents and for the values of the columns.
+// Matrix and right side end as zeros.
 pub(crate) fn fit_with(
     weights: &[u64],
     targets: &[u64],

@@ -1,6 +1,5 @@
 // The room that a fit needs besides its lent tables, in two sizes: the falling factorials of the coordinates, the exponents and the values of the columns.
 ghost use Prim.Native.Nat.{_*_, _≤_, _<_};
-ghost use lib.ListN.{length};
 ghost use Rattle.weighted_poly_fit.specs.Fitting.{Shaped, Exact, Fitted, fitWith};
 ghost use Rattle.answers.specs.Said.{said};
 use crate::fit;
@@ -50,8 +49,8 @@ fn fit_small(
     )
 }
 
-// With room for 256 columns and 362 falling factorials. It is for fits that are not small, so that its call of itself is never made: that call keeps the compiler from
-// laying the room out in the frame of the small ones.
+// With room for 256 columns and 362 falling factorials. It is for fits that are not small, so that its call of itself is never made: that call keeps the
+// compiler from laying the room out in the frame of the small ones.
 fn fit_large(
     weights: &[u64],
     targets: &[u64],

@@ -3,7 +3,7 @@
 use Rattle.math_utils.proofs.falling.falling_product.Statement.{statement}
 use borrow.Author.Needs.{needs}
 use borrow.Author.Tests.{not-true, not-false}
-use mathlib.Core.Path.{_≡_, sym, ap, ap₂, _∙_}
+use mathlib.Core.Path.{_≡_, sym, _∙_}
 use mathlib.Core.Bool.{true, false}
 use Prim.Native.Nat.{_-_}
 use native.Mathlib.Omega.{arith}

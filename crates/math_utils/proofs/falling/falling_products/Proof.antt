@@ -2,7 +2,7 @@
 use Rattle.math_utils.proofs.falling.falling_products.Statement.{statement}
 use borrow.Author.Needs.{needs}
 use borrow.Author.Tests.{not-true, not-false}
-use mathlib.Core.Path.{_≡_, refl, sym, ap, _∙_}
+use mathlib.Core.Path.{_≡_, refl, sym, _∙_}
 use mathlib.Core.Bool.{true, false}
 use Prim.Native.Nat.{_+_, _-_, _%_, _^_, _<_}
 use native.Mathlib.Omega.{arith}

@@ -40,7 +40,7 @@ abbrev lent : (t : ℕ) → lts.After-products (claims t) (entry t) reads.Post �
 lent t c = start t (c .before .before)
 
 never : {A : Type 0} (t : ℕ) → lts.Then1 (claims t) (entry t) reads.Post → A
-never t c = absurd (lt-irrefl 64 (lt-of-lt-of-le (start t (c .before) .pre .1 .1) (c .if1 .taken)))
+never t c = absurd (lt-irrefl 32 (lt-of-lt-of-le (start t (c .before) .pre .1 .1) (c .if1 .taken)))
 
 pub +value-large-spec : {M : Type 1} → statement M
 +value-large-spec =

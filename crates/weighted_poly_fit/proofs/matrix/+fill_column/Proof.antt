@@ -13,7 +13,7 @@ use lib.ListN.{length}
 use Rattle.meaning.specs.Tables.{at}
 use Rattle.meaning.specs.Factorials.{falling}
 use Rattle.theory.specs.Congruence.{Cong}
-use Rattle.theory.specs.LastVariable.{others, final, length-others}
+use Rattle.theory.specs.LastVariable.{length-others}
 use Rattle.theory.specs.Parts.{part, length-part}
 use Rattle.box_rows.specs.Walks.{Walk, walk-start, walk-exponent, walk-fits, walk-less, walk-part, walk-next, walk-end}
 use Rattle.weighted_poly_fit.specs.Entries.{columnEntry, Columned}

@@ -3,7 +3,7 @@ use Rattle.weighted_poly_fit.proofs.matrix.fill_columns.Statement.{stat
 use mathlib.Core.Path.{_≡_, sym, ap, ap₂, _∙_}
 use mathlib.Core.List.{List}
 use Prim.Native.Nat.{ℕ, suc, _+_, _*_, _-_, _≤_, _<_}
-use native.Mathlib.Nat.{zero-mul, mul-le-mul-right, le-trans, le-of-eq}
+use native.Mathlib.Nat.{zero-mul, mul-le-mul-right, le-of-eq}
 use native.Mathlib.Omega.{arith}
 use borrow.Author.Needs.{needs}
 use lib.ListN.{length, take, drop}
