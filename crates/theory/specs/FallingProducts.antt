@@ -12,7 +12,7 @@ use lib.ListN.{length}
 use lib.Pow.{pow-add}
 use Rattle.meaning.specs.Tables.{tabulate}
 use Rattle.meaning.specs.Settings.{widthFits}
-use Rattle.meaning.specs.Leaves.{productsLeft}
+use Rattle.meaning.specs.Leaves.{fallingTold, fallingReply, productsLeft}
 use Rattle.meaning.specs.Factorials.{factorial, falling, takenFrom, taken, twos, oddPart, degreeCap}
 use Rattle.theory.specs.Congruence.{cong-mul-right, mod-cong}
 use Rattle.theory.specs.Twos.{twos-oddPart}
@@ -169,3 +169,12 @@ module _ {m x n : ℕ} where
 
     pub taking-all : n ≤ c → Taken m x n c
     taking-all h = record { few = r .few; least = λ k l. r .so-far k (le-of-lt l); stops = inl (omega (arith, r .few)) }
+
+-- ---- computed cases
+
+-- 5 x 4 x 3 is 60; 3 x 2 x 1 x 0 is zero after four factors; 16 x 15 x .. x 10 is the first product of 16 that 256 divides, 6 x 5 x 4 the first of 6 that 4
+-- divides; no factor leaves 1; a width of 65 is refused
+pub falling-cases : (fallingReply 8 5 3 ≡ fallingTold 0 60 3) × (fallingReply 8 3 7 ≡ fallingTold 0 0 4) × (fallingReply 8 16 300 ≡ fallingTold 0 0 7)
+    × (fallingReply 2 6 9 ≡ fallingTold 0 0 3) × (fallingReply 8 0 0 ≡ fallingTold 0 1 0) × (fallingReply 65 5 3 ≡ fallingTold 11 0 0)
+unfolding widthFits taken takenFrom falling
+falling-cases = (refl, refl, refl, refl, refl, refl)
