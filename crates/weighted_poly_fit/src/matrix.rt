@@ -1,4 +1,4 @@
-// The entries of the fit's matrix: the weight of a grid point times the falling factorials of its coordinates. Most of them are zero, and where a product is
+// The entries of the fit's matrix: the weight of a grid point times the falling factorials of its coordinates. Many of them are zero, and where a product is
 // zero nothing is multiplied any further.
 ghost use mathlib.Core.Path.{_≡_};
 ghost use mathlib.Core.Bool.{true};
@@ -9,7 +9,6 @@ ghost use Rattle.meaning.specs.Boxes.{cells};
 ghost use Rattle.meaning.specs.Settings.{widthFits};
 ghost use Rattle.weighted_poly_fit.specs.Entries.{weighed, fallen, ZeroOn, Products, Tabled, columnEntry, Columned, ZeroColumn};
 ghost use Rattle.theory.specs.MatrixTables.{flat};
-use answers::Number;
 
 // Fills the table with the falling factorials of the coordinates 0, 1, .., below `side`, to the exponents 0, 1, .., below `size`, modulo 2^bitwidth, one
 // coordinate behind the other. Each stops at its first zero.
