@@ -4,7 +4,7 @@ use mathlib.Core.Bool.{Bool, true, false, cond, true≢false}
 use mathlib.Core.Logic.{_⊎_, ⊎-elim}
 use mathlib.Core.List.{List}
 use Prim.Native.Nat.{ℕ, _+_, _-_, _*_, _%_, _^_, _≤_, _<_, min, zero-le}
-use native.Mathlib.Nat.{suc-ne-zero, pos-of-ne-zero, mod-eq-of-lt, le-refl, not-suc-le-zero}
+use native.Mathlib.Nat.{suc-ne-zero, pos-of-ne-zero, mod-eq-of-lt, mod-le, le-refl, le-trans, le-of-eq, not-suc-le-zero}
 use native.Mathlib.Omega.{arith}
 use lib.Bits.{bitAnd}
 use lib.Pow.{pow-lt}
@@ -16,7 +16,7 @@ use Rattle.meaning.specs.Settings.{widthFits}
 use Rattle.meaning.specs.Leaves.{FallingReply, fallingTold, fallingReply, productsReply, productsLeft}
 use Rattle.meaning.specs.Replies.{accepted}
 use Rattle.theory.specs.Ranges.{between-true, between-low, between-high}
-use Rattle.theory.specs.Words.{masked-to}
+use Rattle.theory.specs.Words.{masked-low, masked-to}
 use Rattle.theory.specs.Tables.{Filled, filled-done, eq-tabulate, length-tabulate, at-tabulate-zero}
 use Rattle.theory.specs.Parts.{part, put, length-part, filled-part}
 use Rattle.theory.specs.FallingProducts.{falling-next, zero-stays, taken-low, taken-is, taken-eq, taken-cap, Taking, taking-start, taking-low, taking-next, taking-zero, taking-all}
@@ -41,6 +41,10 @@ module _ {w x n mask : ℕ} where
     -- what the mask keeps of the product so far
     pub product-here : bitAnd p mask ≡ falling x c % 2 ^ w
     product-here = ap₂ bitAnd (r .so-far) (r .masks) ∙ masked-to (falling x c) w (r .narrow)
+
+    -- the mask keeps no more than there is
+    pub product-le : (q : ℕ) → bitAnd q mask ≤ q
+    product-le q = le-trans (le-of-eq (ap (bitAnd q) (r .masks) ∙ masked-low q w (r .narrow))) (mod-le q (2 ^ w))
 
     -- one factor more, and what the mask keeps of it
     module _ {q : ℕ} (e : q ≡ (p * (x - c)) % 2 ^ 64) where

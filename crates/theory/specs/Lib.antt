@@ -58,4 +58,3 @@ pub mod ColumnValues
 pub mod FitBoxes
 pub mod FitSizes
 pub mod FitLaws
-pub mod FewColumns

@@ -16,7 +16,7 @@ use Rattle.meaning.specs.Elimination.{joined}
 use Rattle.meaning.specs.Fit.{columns, fitSystem}
 use Rattle.theory.specs.Boxes.{length-within, within-at}
 use Rattle.theory.specs.Columns.{in-columns-iff, in-getD}
-use Rattle.theory.specs.FewColumns.{columns-one}
+use Rattle.weighted_poly_fit.proofs.FewColumns.{columns-one}
 use Rattle.theory.specs.MatrixTables.{places, at-joined}
 use Rattle.weighted_poly_fit.specs.Entries.{weighed}
 use Rattle.weighted_poly_fit.proofs.Listed.{length-columns-joined}

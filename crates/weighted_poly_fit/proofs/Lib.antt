@@ -3,6 +3,7 @@ pub mod Pasted
 pub mod Listed
 pub mod Steps
 pub mod ByDegrees
+pub mod FewColumns
 pub mod MatrixRows
 pub mod MatrixColumns
 pub mod FitMatrix

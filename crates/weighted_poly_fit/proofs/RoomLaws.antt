@@ -12,7 +12,7 @@ use lib.ListN.{length, take, replicate}
 use lib.Seq.{length-take-le}
 use Rattle.meaning.specs.Boxes.{cells}
 use Rattle.meaning.specs.Fit.{Fit, columns}
-use Rattle.theory.specs.FewColumns.{products-few}
+use Rattle.weighted_poly_fit.proofs.FewColumns.{products-few}
 use Rattle.weighted_poly_fit.specs.Fitting.{Exact}
 use Rattle.weighted_poly_fit.proofs.FitCalls.{exact-columns}
 

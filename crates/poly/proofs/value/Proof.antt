@@ -1,11 +1,11 @@
 -- Settings, then lengths, then the value, which is asked for with a table of few falling products.
 use borrow.Author.Needs.{needs}
+use Rattle.poly.proofs.FewProducts.{products-few}
 use Rattle.poly.proofs.Replies.{value-turned, value-lengths, value-accepted}
 use mathlib.Core.Path.{_≡_, _∙_, sym, ap, ap₂}
 use mathlib.Core.Bool.{false, _&&_}
 use mathlib.Core.List.{List}
 use Prim.Native.Nat.{ℕ, _+_, _^_, _<_}
-use native.Mathlib.Nat.{le-refl}
 use native.Mathlib.Omega.{arith}
 use lib.Dec.{eqb}
 use lib.ListN.{length, take, replicate, getD-replicate}
@@ -18,7 +18,6 @@ use Rattle.meaning.specs.Calls.{settingsReply}
 use Rattle.meaning.specs.Values.{value}
 use Rattle.settings.specs.Settled.{Settled, Unsettled, settled, unsettled}
 use Rattle.settings.specs.Causes.{Passes, passes, settings-cells-le, take-cube}
-use Rattle.theory.specs.FitSizes.{powers-few}
 use Rattle.poly.specs.Shapes.{Asked}
 use Rattle.poly.proofs.value.Statement.{statement}
 use Rattle.poly.proofs.value.Tie as tie
@@ -99,7 +98,7 @@ asked c =
       fits = p .width;
       same = c .if2 .left ∙ sym same;
       few = rw same
-          (powers-few (length (k .support .now)) d d (p .short) (omega (arith, s .fits .max-degree)) small (le-refl d));
+          (products-few (length (k .support .now)) d (p .short) (omega (arith, s .fits .max-degree)) small);
     }
   where
     low : (j : ℕ) → j < length (start (given c) .args .support .now) → j < 20 → at (taken (start (given c))) j < start (given c) .args .max-degree + 1

@@ -7,9 +7,10 @@ use mathlib.Core.Path.{_≡_, sym, _∙_}
 use mathlib.Core.Bool.{true, false}
 use Prim.Native.Nat.{_-_}
 use native.Mathlib.Omega.{arith}
+use lib.Bits.{bitAnd}
 use Rattle.meaning.specs.Settings.{widthFits}
 use Rattle.theory.specs.Ranges.{width-pos, width-high}
-use Rattle.math_utils.proofs.FallingLoops.{Product, product-start, product-low, product-next, product-stop, product-zero, product-all, product-whole, falling-fits, said-stops}
+use Rattle.math_utils.proofs.FallingLoops.{Product, product-start, product-low, product-le, product-next, product-stop, product-zero, product-all, product-whole, falling-fits, said-stops}
 use Rattle.math_utils.proofs.falling.falling_product.Tie as tie
 
 abbrev Inv-loop : tie.InvT-loop
@@ -49,9 +50,11 @@ falling-product-spec =
     let k = start (t .before .before) .args in
     let i = t .before .loop .inv in
     let m = c .before .wrapping-mul .ensures in
+    let z : bitAnd (c .before .wrapping-mul .result) (t .before .before .bitmask .result) ≡ 0 =
+    omega (arith, c .if2 .taken, product-le i (c .before .wrapping-mul .result)) in
     said-stops _
     (falling-fits (k .bitwidth) (k .x) (fits (t .before .before .before)) (k .n)
-    (sym (product-zero i m (omega (arith, t .loop-test .taken)) (c .if2 .taken))) (product-stop i m (t .loop-test .taken) (c .if2 .taken))))
+    (sym (product-zero i m (omega (arith, t .loop-test .taken)) z)) (product-stop i m (t .loop-test .taken) z)))
     (λ c. search needs)
     (λ c. let t = turn (c .before) in product-next (t .before .loop .inv) (c .before .wrapping-mul .ensures) (t .loop-test .taken) (c .if2 .left))
     (λ c.
