@@ -12,8 +12,8 @@
  *          Its length is k, 1 to 20. Here it is a table as any other: its count is its length.
  * total    how many variables there are in all, at most 20
  * width    2 to 64. All counts modulo 2^width; the bits above the width of a value, weight, target,
- *          coordinate or coefficient do not count. cobra_box_is_valid alone reads coefficients
- *          whole.
+ *          coordinate, offset or coefficient do not count. cobra_box_is_valid alone reads
+ *          coefficients whole.
  * degree   the highest exponent of each variable, and the highest coordinate of the grid. The box
  *          has cells = (degree+1)^k cells, at most 65,536. cobra_recovery_room and cobra_fit_room
  *          tell beforehand how long the tables have to be.
@@ -281,6 +281,34 @@ uint32_t cobra_box_sum(const uint64_t *a, size_t a_len,
 uint32_t cobra_reduce(uint64_t *coeffs, size_t coeffs_len,
                       const uint64_t *support, size_t support_len,
                       uint32_t total, uint32_t width, uint8_t degree);
+
+/*
+ * A polynomial with its datum moved: each variable is replaced by itself plus its offset. When the
+ * datum of a trench is re-levelled, the form that is filed moves with it and need not be surveyed
+ * again.
+ *
+ * coeffs   a coefficient for each cell: cells entries. The box need not be a normal form; it counts
+ *          as the polynomial that it holds.
+ * degree   0 or more
+ * offsets  an offset for each support variable, in the support's order: k entries, modulo 2^width.
+ *          A negative offset crosses as its remainder modulo 2^width or 2^64.
+ * out      cells entries
+ *
+ * Numbers: 1, 2, 3, 5, 7, 8, 9.
+ * COBRA_OK: out is the normal form of the moved polynomial, a box of the same settings. Its value
+ * at every whole-number point x, negative ones too, is that of coeffs at x plus the offsets, modulo
+ * 2^width; no other normal form has these values. Offsets that are all 0 leave a normal form as it
+ * is, and of another box what cobra_reduce leaves. To move by a and then by b is to move by a + b.
+ * Any other number: out is as it was.
+ *
+ * 1200 + 65523 x + 2 x(x-1) at width 16, which is 1200 - 15 x + 2 x^2, moved by 37 is
+ * 3383 + 135 x + 2 x(x-1).
+ */
+uint32_t cobra_move_datum(const uint64_t *coeffs, size_t coeffs_len,
+                          const uint64_t *support, size_t support_len,
+                          uint32_t total, uint32_t width, uint8_t degree,
+                          const uint64_t *offsets, size_t offsets_len,
+                          uint64_t *out, size_t out_len);
 
 /*
  * Whether two polynomials are the same: one formula recovered at degree 3 and at degree 5, or with

@@ -51,6 +51,7 @@ void part_refusals(void);
 void part_lengths(void);
 void part_room(void);
 void part_falling(void);
+void part_datum(void);
 void part_stack(void);
 
 #endif

@@ -190,6 +190,7 @@ static void null_tables(void)
         said(cause, cobra_recover_multivar_poly(NULL, 0, s, k, 1, 8, 1, NULL, 0), 0);
         said(cause, cobra_box_sum(NULL, 0, NULL, 0, s, k, 1, 8, 1, NULL, 0), 0);
         said(cause, cobra_reduce(NULL, 0, s, k, 1, 8, 1), 0);
+        said(cause, cobra_move_datum(NULL, 0, s, k, 1, 8, 1, NULL, 0, NULL, 0), 0);
         said(cause, cobra_normalize_polynomial(NULL, 0, s, k, 1, 8, 1, NULL, 0), 0);
         said(cause, cobra_to_factorial_basis(NULL, 0, s, k, 1, 8, 1, NULL, 0), 0);
         said(cause, cobra_to_monomial_basis(NULL, 0, s, k, 1, 8, 1, NULL, 0), 0);

@@ -39,12 +39,14 @@ int main(int argc, char **argv)
         part_room();
     else if (!strcmp(part, "falling"))
         part_falling();
+    else if (!strcmp(part, "datum"))
+        part_datum();
     else if (!strcmp(part, "threads"))
         part_threads();
     else if (!strcmp(part, "stack"))
         part_stack();
     else {
-        fprintf(stderr, "usage: driver refusals|lengths|room|falling|threads|stack [--plant K]\n");
+        fprintf(stderr, "usage: driver refusals|lengths|room|falling|datum|threads|stack [--plant K]\n");
         return 2;
     }
     printf("driver: %s: %lu comparisons\n", part, check_count());

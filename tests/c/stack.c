@@ -84,6 +84,7 @@ static void *boxes(void *arg)
         cobra_box_value(a, n, list, k, 20, 64, degree, list, k, &at);
         cobra_box_sum(a, n, b, n, list, k, 20, 64, degree, c, n);
         cobra_reduce(c, n, list, k, 20, 64, degree);
+        cobra_move_datum(a, n, list, k, 20, 64, degree, list, k, c, n);
         cobra_box_same(a, n, list, k, 20, 64, degree, a, n, list, k, 20, 64, degree, &at);
         cobra_box_is_valid(a, n, list, k, 20, 64, degree, &at);
         cobra_normalize_polynomial(a, n, list, k, 20, 64, degree, b, n);

@@ -336,14 +336,21 @@ pub fn factors(basis: Basis) -> &'static [u64] {
     }
 }
 
-/// The values of a box at all points of its grid, modulo 2^64, variable by variable.
+/// The values of a box at all points of its grid, modulo 2^64.
 pub fn on_grid(cells: &[u64], degree: u8, k: usize, basis: Basis) -> Vec<u64> {
+    let factors = factors(basis);
+    along_each(cells, degree, k, |_, x| &factors[x * SIDE..])
+}
+
+/// A table transformed variable by variable, modulo 2^64: along each, place x of a line gets the sum of the line's entries, each
+/// times its factor in the row of this variable and place.
+pub fn along_each<'a>(cells: &[u64], degree: u8, k: usize, row: impl Fn(usize, usize) -> &'a [u64]) -> Vec<u64> {
     let base = usize::from(degree) + 1;
-    let (mut now, mut stride, factors) = (cells.to_vec(), 1, factors(basis));
-    for _ in 0..k {
+    let (mut now, mut stride) = (cells.to_vec(), 1);
+    for variable in 0..k {
         let at = |i: usize| {
             let x = i / stride % base;
-            let (start, row) = (i - x * stride, &factors[x * SIDE..]);
+            let (start, row) = (i - x * stride, row(variable, x));
             let term = |e: usize| now[start + e * stride].wrapping_mul(row[e]);
             (0..base).fold(0u64, |sum, e| sum.wrapping_add(term(e)))
         };

@@ -33,7 +33,7 @@ pub const GROUPS: [(&Group, bool); 8] = [
 /// one in it.
 pub const NUMBERS: [&str; 4] = ["variables", "degree", "width", "seed"];
 
-/// How many points a case of `VALUES` has.
+/// How many points a case with points has.
 const POINTS: u64 = 4;
 
 pub fn with<T>(c: &Case, then: impl FnOnce(&Settings) -> T) -> T {
@@ -49,7 +49,7 @@ pub fn random_case(most: u64, r: &mut Random) -> Case {
 }
 
 /// A polynomial of whole numbers in powers: few terms or many, small or of any size.
-fn polynomial(c: &Case, r: &mut Random) -> Vec<u64> {
+pub fn polynomial(c: &Case, r: &mut Random) -> Vec<u64> {
     let cells = power(c.u64(1) + 1, c.u64(0) as usize).expect("a small box");
     let (sparse, small) = (r.one_in(2), r.one_in(2));
     let coefficient = |r: &mut Random| match () {
@@ -60,28 +60,38 @@ fn polynomial(c: &Case, r: &mut Random) -> Vec<u64> {
     (0..cells).map(|_| coefficient(r)).collect()
 }
 
-/// Its value at a point, modulo 2^128.
-fn value_at(coefficients: &[u64], s: &Settings, point: &[i128]) -> u128 {
+/// The value of a box at a point, modulo 2^128. An exponent e stands for the factors 0 to e - 1 of its coordinate.
+pub fn value_at(coefficients: &[u64], s: &Settings, point: &[i128], factor: impl Fn(i128, u64) -> i128) -> u128 {
     let whole = |x: u64| i128::from(x as i64);
     let base = u64::from(s.degree) + 1;
     let mut sum = 0i128;
     for (cell, &coefficient) in coefficients.iter().enumerate().filter(|(_, &x)| x != 0) {
         let mut term = whole(coefficient);
         for (x, e) in point.iter().zip(digits(cell as u64, base, point.len())) {
-            (0..e).for_each(|_| term = term.wrapping_mul(*x));
+            (0..e).for_each(|i| term = term.wrapping_mul(factor(*x, i)));
         }
         sum = sum.wrapping_add(term);
     }
     sum as u128
 }
 
-/// Its values on the grid, modulo 2^64.
-fn grid(coefficients: &[u64], s: &Settings) -> Vec<u64> {
+/// The factors of a power: all are the coordinate.
+fn powers(x: i128, _: u64) -> i128 {
+    x
+}
+
+/// The polynomial's values on the grid, modulo 2^64.
+pub fn grid(coefficients: &[u64], s: &Settings) -> Vec<u64> {
+    moved_grid(coefficients, s, &vec![0; s.support.len()])
+}
+
+/// Its values at the points of the grid with an offset added to each coordinate, modulo 2^64.
+pub fn moved_grid(coefficients: &[u64], s: &Settings, offsets: &[u64]) -> Vec<u64> {
     let base = u64::from(s.degree) + 1;
-    let point = |cell| digits(cell, base, s.support.len()).into_iter().map(i128::from).collect();
     let value = |cell| {
-        let point: Vec<i128> = point(cell);
-        value_at(coefficients, s, &point) as u64
+        let point = digits(cell, base, s.support.len()).into_iter().map(i128::from);
+        let moved: Vec<i128> = point.zip(offsets).map(|(x, &offset)| x + i128::from(offset)).collect();
+        value_at(coefficients, s, &moved, powers) as u64
     };
     (0..s.cells().expect("a small box")).map(value).collect()
 }
@@ -98,6 +108,16 @@ fn call(call: InOut, cells: &[u64], s: &Settings) -> (u32, Vec<u64>) {
     let (from, on, to) = (cells.as_ptr(), s.support.as_ptr(), out.as_mut_ptr());
     let answer = unsafe { call(from, n, on, k, s.total, s.width, s.degree, to, m) };
     (answer, out)
+}
+
+/// Some points of a case, coordinate after coordinate.
+pub fn points(c: &Case, r: &mut Random) -> Vec<u64> {
+    let coordinate = |r: &mut Random| match r.below(3) {
+        0 => r.below(2_000).wrapping_sub(1_000),
+        1 => r.below(300).wrapping_neg(),
+        _ => r.word(),
+    };
+    (0..POINTS * c.u64(0)).map(|_| coordinate(r)).collect()
 }
 
 pub fn recovered(values: &[u64], s: &Settings) -> (u32, Vec<u64>) {
@@ -127,12 +147,7 @@ const VALUES: Group = Group {
         let most = r.pick(&[9, 16, 27, 64]);
         let c = random_case(most, r);
         let coefficients = polynomial(&c, r);
-        let coordinate = |r: &mut Random| match r.below(3) {
-            0 => r.below(2_000).wrapping_sub(1_000),
-            1 => r.below(300).wrapping_neg(),
-            _ => r.word(),
-        };
-        let points = (0..POINTS * c.u64(0)).map(|_| coordinate(r)).collect();
+        let points = points(&c, r);
         c.with(coefficients).with(points)
     }),
     cost: 1,
@@ -149,7 +164,7 @@ const VALUES: Group = Group {
             let coefficients = in_box(&c.tables[0], s);
             let value = |point: &[u64]| {
                 let point: Vec<i128> = point.iter().map(|&x| i128::from(x as i64)).collect();
-                value_at(&coefficients, s, &point) as u64 & low_bits(u64::from(s.width))
+                value_at(&coefficients, s, &point, powers) as u64 & low_bits(u64::from(s.width))
             };
             let values = c.tables[1].chunks_exact(s.support.len()).map(value).collect();
             (Source::Document, Answer::number(0).words("values", values))
@@ -298,13 +313,7 @@ const SUMS: Group = Group {
             let (first, a_cells) = recovered(&a, s);
             let (second, b_cells) = recovered(&b, s);
             let (third, cells) = recovered(&sum_of_grids(&a, &b, s), s);
-            let mut sum = vec![0x5a; cells.len()];
-            let (n, k) = (cells.len(), s.support.len());
-            let (a_at, b_at, on) = (a_cells.as_ptr(), b_cells.as_ptr(), s.support.as_ptr());
-            let (total, width, degree, to) = (s.total, s.width, s.degree, sum.as_mut_ptr());
-            let fourth = unsafe {
-                poly::cobra_box_sum(a_at, n, b_at, n, on, k, total, width, degree, to, n)
-            };
+            let (fourth, sum) = sum_of(&a_cells, &b_cells, s);
             let said = Answer::number(first.max(second).max(third).max(fourth));
             said.words("answer of the sum", cells).words("sum of the answers", sum)
         })
@@ -318,6 +327,16 @@ const SUMS: Group = Group {
         })
     },
 };
+
+/// The library's sum of two boxes.
+pub fn sum_of(a: &[u64], b: &[u64], s: &Settings) -> (u32, Vec<u64>) {
+    let mut sum = vec![0x5a; a.len()];
+    let (n, k) = (a.len(), s.support.len());
+    let (a_at, b_at, on) = (a.as_ptr(), b.as_ptr(), s.support.as_ptr());
+    let (total, width, degree, to) = (s.total, s.width, s.degree, sum.as_mut_ptr());
+    let answer = unsafe { poly::cobra_box_sum(a_at, n, b_at, n, on, k, total, width, degree, to, n) };
+    (answer, sum)
+}
 
 /// Cell by cell modulo 2^width.
 fn sum_of_grids(a: &[u64], b: &[u64], s: &Settings) -> Vec<u64> {
@@ -381,6 +400,14 @@ fn with_two_grids<T>(c: &Case, then: impl FnOnce(&Settings, &Settings, [Vec<u64>
     })
 }
 
+/// What the library's reduction leaves of a box.
+pub fn reduced(cells: &[u64], s: &Settings) -> (u32, Vec<u64>) {
+    let mut reduced = cells.to_vec();
+    let (n, k, at, on) = (reduced.len(), s.support.len(), reduced.as_mut_ptr(), s.support.as_ptr());
+    let answer = unsafe { poly::cobra_reduce(at, n, on, k, s.total, s.width, s.degree) };
+    (answer, reduced)
+}
+
 /// A form is the same as what reduction leaves of it, and not when one bit below a bound is another.
 const SAME_REDUCED: Group = Group {
     name: "demand 3, sameness of a reduced form",
@@ -396,9 +423,8 @@ const SAME_REDUCED: Group = Group {
     cost: 1,
     judged: |c| {
         with(c, |s| {
-            let (cells, mut reduced) = (in_box(&c.tables[0], s), in_box(&c.tables[0], s));
-            let (n, k, from, on) = (cells.len(), s.support.len(), reduced.as_mut_ptr(), s.support.as_ptr());
-            let answer = unsafe { poly::cobra_reduce(from, n, on, k, s.total, s.width, s.degree) };
+            let cells = in_box(&c.tables[0], s);
+            let (answer, reduced) = reduced(&cells, s);
             let mut other = reduced.clone();
             let (cell, bits) = counting_cell(c.u64(4), s);
             other[cell] ^= 1 << (c.u64(5) % bits);

@@ -55,6 +55,16 @@ pub mod poly {
     }
 }
 
+pub mod datum {
+    calls! {
+        cobra_move_datum(
+            coeffs: *const u64, coeffs_len: usize, support: *const u64, support_len: usize,
+            total: u32, width: u32, max_degree: u8,
+            offsets: *const u64, offsets_len: usize, out: *mut u64, out_len: usize,
+        );
+    }
+}
+
 pub mod conversions {
     calls! {
         cobra_to_factorial_basis(

@@ -7,6 +7,7 @@ mod boxes;
 mod bytes;
 mod conversions;
 mod core;
+mod datum;
 mod definitions;
 mod demand3;
 mod differences;
@@ -52,6 +53,7 @@ fn groups() -> Vec<(&'static Group, bool)> {
     groups.extend(leaves_mono::GROUPS.map(always));
     groups.extend(box_calls::GROUPS);
     groups.extend(sameness::GROUPS);
+    groups.extend(datum::GROUPS);
     groups.extend(conversions::GROUPS);
     groups.extend(recovery::GROUPS);
     groups.extend(singletons::GROUPS);
@@ -210,7 +212,7 @@ fn selftest(groups: &[(&Group, bool)], seed: u64, cases: u64) -> bool {
 fn refutes_what_is_false(seed: u64, cases: u64) -> bool {
     let mut all = true;
     let statements = beyond::REFUTED.into_iter().chain(room::REFUTED).chain(sameness::REFUTED);
-    let statements = statements.chain(falling::REFUTED.map(always));
+    let statements = statements.chain(datum::REFUTED).chain(falling::REFUTED.map(always));
     for (group, _) in statements.filter(|(_, here)| *here) {
         match judge(group, seed, cases, Plant::Nothing).failure {
             Some((_, smallest)) => show(group, "false, and refuted", &smallest),

@@ -206,7 +206,7 @@ const MEETINGS: [(&[u64], &[u64]); 14] = [
 const DRAWN: u64 = 40;
 
 /// Every form with coefficients below 2^width, of each degree that has at most so many.
-fn every_form(width: u64, support: &[u64], most: u64) -> Vec<Case> {
+pub fn every_form(width: u64, support: &[u64], most: u64) -> Vec<Case> {
     let mut forms = Vec::new();
     for degree in 0..=3 {
         let cells = power(degree + 1, support.len()).expect("a small box");

@@ -1,5 +1,5 @@
-/* Both conversions and the normal form in plain C: synthetic division along each variable, in place, modulo 2^64; then the
-   bits that count. */
+/* Both conversions, the normal form and the moved form in plain C: passes along each variable, in place, modulo 2^64, which are
+   synthetic division; then the bits that count. */
 
 #include "limit.h"
 
@@ -62,5 +62,26 @@ uint32_t limit_normalize(const uint64_t *coeffs, size_t cells, uint32_t width, u
 {
     convert(to_falling, coeffs, cells, degree, out);
     reduce(out, cells, (size_t)degree + 1, width);
+    return 0;
+}
+
+static void move(uint64_t *part, size_t stride, size_t degree, uint64_t offset)
+{
+    for (size_t pass = degree; pass-- > 0;)
+        for (size_t e = pass; e < degree; e++) {
+            uint64_t factor = offset + e - 2 * pass;
+            for (size_t i = stride * e; i < stride * (e + 1); i++)
+                part[i] += factor * part[i + stride];
+        }
+}
+
+uint32_t limit_move(const uint64_t *coeffs, size_t cells, uint32_t width, uint8_t degree, const uint64_t *offsets, uint64_t *out)
+{
+    size_t base = (size_t)degree + 1;
+    memcpy(out, coeffs, cells * sizeof *out);
+    for (size_t stride = 1; stride < cells; stride *= base, offsets++)
+        for (size_t at = 0; at < cells; at += stride * base)
+            move(out + at, stride, degree, *offsets);
+    reduce(out, cells, base, width);
     return 0;
 }

@@ -95,6 +95,29 @@ pub fn crossing(session: &Session) {
     }
 }
 
+/// The products of a moved form beside those of the conversion of the same box.
+pub fn products(session: &Session) {
+    println!("| shape | cells | moved, ns a product | converted, ns a product | moved / converted |\n|---|---|---|---|---|");
+    for row in session.rows.iter().filter(|row| row.input.call == "move_datum") {
+        if let Some([moved, converted]) = a_product(row) {
+            let (input, times) = (&row.input, [moved, converted].map(|t| short(t * 1e9)).join(" | "));
+            println!("| {} | {} | {times} | {} |", input.shape, input.size, ratio(moved / converted));
+        }
+    }
+}
+
+/// The seconds of a product of a moved form, and of one of the conversion beside it, which makes (d - 1) / (d + 1) as many;
+/// nothing where it makes none.
+pub fn a_product(row: &Row) -> Option<[f64; 2]> {
+    let (steps, d) = (row.input.steps as f64, degree(row) as f64);
+    (d > 1.0).then_some([row.ours / steps, row.beside? / (steps * (d - 1.0) / (d + 1.0))])
+}
+
+/// The degree of a row's box, which ends the name of its shape.
+pub fn degree(row: &Row) -> u8 {
+    row.input.shape.rsplit(' ').next().and_then(|d| d.parse().ok()).expect("a shape that ends with its degree")
+}
+
 /// The share of the Rust's recovery that is the stand-in's.
 pub fn reading(session: &Session) {
     let recovered = session.rows.iter().filter(|row| row.input.call == "recover_multivar_poly");

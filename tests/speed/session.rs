@@ -27,7 +27,8 @@ pub struct Input {
 /// The programs on one input, made ready.
 pub struct Programs<'a> {
     pub rust: Option<&'a mut dyn FnMut()>,
-    /// The part of the Rust's recovery that is the stand-in's; or, for a call on bytes, the call on u64.
+    /// The part of the Rust's recovery that is the stand-in's; or, for a call on bytes, the call on u64; or, for a moved form,
+    /// the conversion of the same box.
     pub beside: Option<&'a mut dyn FnMut()>,
     pub c: &'a mut dyn FnMut(),
     pub ours: &'a mut dyn FnMut(),

@@ -76,6 +76,8 @@ fn main() {
     report::growth(&session);
     println!("\n### What crossing as bytes takes\n");
     report::crossing(&session);
+    println!("\n### A moved form beside a conversion\n");
+    report::products(&session);
     println!("\n### Targets\n");
     targets::table(&session);
     println!("\n### Ratios\n");

@@ -1,5 +1,6 @@
 //! What each call is to reach, beside what the run found.
 
+use crate::report::{a_product, degree};
 use crate::session::{Row, Session};
 
 /// What a figure is held to.
@@ -14,6 +15,8 @@ enum Bound {
     Nanoseconds(f64),
     /// Nanoseconds for each cell at most.
     NanosecondsACell(f64),
+    /// For each product at most this of the time of the conversion beside it.
+    OfAConversion(f64),
 }
 use Bound::*;
 
@@ -73,6 +76,11 @@ const TARGETS: &[Target] = &[
     target("to_monomial_basis", "4 cells", |r| cells(r, 4), OfC(2.0)),
     target("to_monomial_basis", "16 cells", |r| cells(r, 16), OfC(1.5)),
     target("to_monomial_basis", "from 256 cells on", large, OfC(1.0)),
+    target("move_datum", "4 cells", |r| cells(r, 4), OfC(2.0)),
+    target("move_datum", "16 cells", |r| cells(r, 16), OfC(1.5)),
+    target("move_datum", "from 256 cells on", large, OfC(1.0)),
+    // at degree 3 the conversion's factors are 1 and 2, which take no products
+    target("move_datum", "degree 7 and more", |r| degree(r) >= 7, OfAConversion(1.3)),
     target("stirling_second_kind", "every degree", |_| true, OfCAheadOfRust(1.3)),
     target("stirling_first_kind", "every degree", |_| true, OfCAheadOfRust(1.3)),
     target("solve_2adic", "4 x 4, 16 x 4", |r| r.input.size == 16 || r.input.size == 64, OfCAheadOfRust(1.6)),
@@ -95,8 +103,10 @@ pub fn table(session: &Session) {
         let part = span(&rows, |r| Some(r.ours / r.c));
         let gain = span(&rows, |r| r.rust.map(|rust| rust / r.ours));
         let a_cell = |r: &Row| r.ours * 1e9 / r.input.size as f64;
+        let of_conversion = |r: &Row| a_product(r).map(|[moved, converted]| moved / converted);
         let ns = match t.bound {
             NanosecondsACell(_) => span(&rows, |r| Some(a_cell(r))) + " a cell",
+            OfAConversion(_) => span(&rows, of_conversion) + " of a conversion's product",
             _ => span(&rows, |r| Some(r.ours * 1e9)),
         };
         let (wanted, reached) = match t.bound {
@@ -108,6 +118,10 @@ pub fn table(session: &Session) {
             AheadOfRust => ("ahead of the Rust".into(), rows.iter().all(|r| r.rust.map_or(true, |rust| r.ours <= rust))),
             Nanoseconds(most) => (format!("{most} ns"), rows.iter().all(|r| r.ours * 1e9 <= most)),
             NanosecondsACell(most) => (format!("{most} ns a cell"), rows.iter().all(|r| a_cell(r) <= most)),
+            OfAConversion(most) => (
+                format!("{most} of a conversion's product"),
+                rows.iter().all(|r| of_conversion(r).map_or(true, |part| part <= most)),
+            ),
         };
         let reached = if reached { "yes" } else { "NO" };
         println!("| `{}` | {} | {part} | {gain} | {ns} | {wanted} | {reached} |", t.call, t.which);

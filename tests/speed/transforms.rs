@@ -1,4 +1,4 @@
-//! Conversions, normal form and recovery: a box in, a box out.
+//! Conversions, normal form, moved form and recovery: a box in, a box out.
 
 use crate::boxes::{on_grid, Basis};
 use crate::core::evaluator::Evaluator;
@@ -6,7 +6,7 @@ use crate::ir::basis_transform::{to_factorial_basis, to_monomial_basis};
 use crate::ir::multivar_poly_recovery::recover_multivar_poly;
 use crate::ir::poly::{CoeffMap, PolyIR};
 use crate::ir::poly_normalizer::normalize_polynomial;
-use crate::library_boxes::{bytes, conversions, recovery, InOut};
+use crate::library_boxes::{bytes, conversions, datum, recovery, InOut};
 use crate::random::Random;
 use crate::reference::{box_of_map, map_of_box, reduced};
 use crate::session::{check, run, Input, Programs, Session};
@@ -22,6 +22,9 @@ extern "C" {
     fn limit_to_monomial(coeffs: *const u64, cells: usize, width: u32, degree: u8, out: *mut u64) -> u32;
     fn limit_normalize(coeffs: *const u64, cells: usize, width: u32, degree: u8, out: *mut u64) -> u32;
     fn limit_recover(values: *const u64, cells: usize, width: u32, degree: u8, out: *mut u64) -> u32;
+    fn limit_move(
+        coeffs: *const u64, cells: usize, width: u32, degree: u8, offsets: *const u64, out: *mut u64,
+    ) -> u32;
 }
 
 #[derive(Clone, Copy, PartialEq)]
@@ -77,6 +80,10 @@ pub fn time(session: &mut Session) {
         }
         shapes::grow(session, call.name(), "k cells d / 2", 3);
     }
+    for (shape, listed) in shapes::all(&[&converted[..], &CELLS_65536[3..]].concat(), 3) {
+        moved(session, shape, listed);
+    }
+    shapes::grow(session, MOVED, "k cells d / 2", 3);
     let recovered = [&SMALL[..], &CELLS_4096, &CELLS_65536].concat();
     for (shape, listed) in shapes::all(&recovered, 3) {
         row(session, Call::Recovery, shape, WIDE, listed);
@@ -162,6 +169,45 @@ fn timed(
             beside,
             c: &mut run(|| by_limit(black_box(&mut limit_out))),
             ours,
+        },
+    );
+}
+
+const MOVED: &str = "move_datum";
+
+/// A form moved by any offsets, beside the library's conversion of the same box to falling factorials. The Rust has no such call.
+fn moved(session: &mut Session, (k, degree): Shape, listed: bool) {
+    let support: Vec<u64> = (0..k as u64).collect();
+    let s = Settings { support: &support, total: k as u32, width: WIDE, degree };
+    let cells = s.cells().expect("a box within the limit") as usize;
+    let mut r = Random::new(1, "speed of moved forms");
+    let [input, offsets] = [cells, k].map(|many| (0..many).map(|_| r.next()).collect::<Vec<u64>>());
+    let (from, on, by) = (input.as_ptr(), support.as_ptr(), offsets.as_ptr());
+    let by_limit = |out: &mut [u64]| unsafe { limit_move(from, cells, WIDE, degree, by, out.as_mut_ptr()) };
+    let by_library = |out: &mut [u64]| unsafe {
+        datum::cobra_move_datum(from, cells, on, k, s.total, WIDE, degree, by, k, out.as_mut_ptr(), cells)
+    };
+    let converted = |out: &mut [u64]| unsafe {
+        conversions::cobra_to_factorial_basis(from, cells, on, k, s.total, WIDE, degree, out.as_mut_ptr(), cells)
+    };
+    let [mut our_out, mut limit_out, mut other_out] = [(); 3].map(|()| vec![0; cells]);
+    let said = [by_library(&mut our_out), by_limit(&mut limit_out), converted(&mut other_out)];
+    check(said == [0; 3], "a box is refused");
+    check(our_out == limit_out, "the library's moved form is not the C's");
+    session.time(
+        Input {
+            call: MOVED,
+            shape: shapes::named((k, degree)),
+            size: cells,
+            width: WIDE,
+            steps: (k * cells * usize::from(degree) / 2) as u64,
+            listed,
+        },
+        Programs {
+            rust: None,
+            beside: Some(&mut run(|| converted(black_box(&mut other_out)))),
+            c: &mut run(|| by_limit(black_box(&mut limit_out))),
+            ours: &mut run(|| by_library(black_box(&mut our_out))),
         },
     );
 }

@@ -3,3 +3,4 @@ pub mod Together
 pub mod RoundTrips
 pub mod KeptRooms
 pub mod Compared
+pub mod MovedForms

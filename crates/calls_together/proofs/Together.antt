@@ -40,7 +40,7 @@ Recovers total w support ds v out = CallPasses 65536 true total (widthFits w) su
 module _ {total w : ℕ} {support ds v out : List ℕ} {number : ℕ} {after : List ℕ}
     (call : Decides (Recovers total w support ds v out) w ds v number after) (zero : number ≡ 0) where
   -- what passed
-  passed : Recovers total w support ds v out
+  pub passed : Recovers total w support ds v out
   passed = call .decided .0 (inl zero)
 
   -- the value of what recovery left

@@ -4,4 +4,5 @@ mod bytes;
 mod comparisons;
 mod forms;
 mod grids;
+mod moves;
 mod rooms;

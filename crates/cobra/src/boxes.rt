@@ -1,4 +1,4 @@
-// Calls on boxes of coefficients and grids of values: the calls of `poly`, `sameness`, `basis_transform`, `poly_normalizer` and `multivar_poly_recovery`.
+// Calls on boxes of coefficients and grids of values: the calls of `poly`, `sameness`, `datum`, `basis_transform`, `poly_normalizer` and `multivar_poly_recovery`.
 // Tables and support are of u64, first support variable fastest; what a call does is said there.
 ghost use mathlib.Core.Path.{_≡_};
 ghost use mathlib.Core.Bool.{true, false};
@@ -7,11 +7,11 @@ ghost use mathlib.Core.List.{[], _∷_};
 ghost use lib.ListN.{length};
 ghost use Rattle.meaning.specs.Settings.{cube, widthFits};
 ghost use Rattle.meaning.specs.Conversions.{fallingBox, powerBox, normalBox};
-ghost use Rattle.meaning.specs.Calls.{validReply, sameReply, valueReply, sumNumber, sumLeft, reduceNumber, reduceLeft, inOutNumber, convertLeft, recoveryNumber, recoveryLeft};
+ghost use Rattle.meaning.specs.Calls.{validReply, sameReply, valueReply, sumNumber, sumLeft, reduceNumber, reduceLeft, moveNumber, moveLeft, inOutNumber, convertLeft, recoveryNumber, recoveryLeft};
 ghost use Rattle.meaning.specs.Replies.{told};
 ghost use Rattle.meaning.specs.Singletons.{singletonNumber, singletonLeft};
 ghost use Rattle.demand3.specs.Settings.{CallPasses};
-ghost use Rattle.demand3.specs.Promises.{Judged, Compared, Valued, Summed, Reduced, ToFalling, ToPowers, Normalised, Decides};
+ghost use Rattle.demand3.specs.Promises.{Judged, Compared, Valued, Summed, Reduced, DatumMoved, ToFalling, ToPowers, Normalised, Decides};
 ghost use Rattle.settings.specs.Forms.{cubeForm};
 
 // 1 at `value` where the box is a normal form, else 0.
@@ -131,6 +131,28 @@ pub extern "C" fn cobra_reduce(
         width (cube (now (support .entry)) degree) (now (coeffs .entry)) r (now (coeffs .exit)) ⌝ }
 {
     answers::outcome_code(poly::reduce(coeffs, support, total, width, degree))
+}
+
+// The form with its datum moved.
+#[no_mangle]
+pub extern "C" fn cobra_move_datum(
+    coeffs: &[u64],
+    support: &[u64],
+    total: u32,
+    width: u32,
+    degree: u8,
+    offsets: &[u64],
+    out: &mut [u64],
+) -> u32
+    ensures says { λ r. ⌜ r ≡ moveNumber total width (now (support .entry)) (cube (now (support .entry)) degree) (now (coeffs .entry))
+        (now (offsets .entry)) (now (out .entry)) ⌝ }
+    ensures leaves { λ r. ⌜ now (out .exit) ≡ moveLeft total width (now (support .entry)) (cube (now (support .entry)) degree) (now (coeffs .entry))
+        (now (offsets .entry)) (now (out .entry)) ⌝ }
+    ensures moves { λ r. ⌜ DatumMoved (CallPasses 65536 false total (widthFits width) (now (support .entry)) (cube (now (support .entry)) degree)
+        (λ n. (now (coeffs .entry), n) ∷ (now (offsets .entry), length (now (support .entry))) ∷ (now (out .entry), n) ∷ []))
+        width (cube (now (support .entry)) degree) (now (coeffs .entry)) (now (offsets .entry)) r (now (out .exit)) ⌝ }
+{
+    answers::outcome_code(datum::move_datum(coeffs, support, total, width, degree, offsets, out))
 }
 
 // From powers to falling factorials.

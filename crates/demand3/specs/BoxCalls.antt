@@ -2,14 +2,14 @@
 use mathlib.Core.Path.{_≡_, refl, sym, ap, ap₂, _∙_}
 use mathlib.Core.Logic.{_⊎_, inl, inr, _↔_}
 use mathlib.Core.Bool.{Bool, true, false, _&&_}
-use Prim.Native.Nat.{ℕ, zero, suc, _+_, _%_, _^_}
+use Prim.Native.Nat.{ℕ, zero, suc, _+_, _%_, _^_, _<_}
 use mathlib.Core.List.{List, [], _∷_, map}
 use native.Mathlib.Nat.{zero-mod, mod-lt}
 use borrow.Author.Tests.{ltb-true, lt-ltb}
 use lib.Dec.{ltb, eqb}
 use lib.Pow.{pow-pos}
 use lib.IntN.{ℤ, pos}
-use lib.ListN.{length, getD}
+use lib.ListN.{length}
 use Rattle.meaning.specs.Tables.{at}
 use Rattle.meaning.specs.Boxes.{cells, digits}
 use Rattle.meaning.specs.Values.{value, bound, Normal, boxTotal, boxReduced}
@@ -19,20 +19,26 @@ use Rattle.meaning.specs.Recovery.{every}
 use Rattle.meaning.specs.Replies.{Reply}
 use Rattle.meaning.specs.Settings.{widthFits, callNumber}
 use Rattle.meaning.specs.Calls.{reply, left, truth, validReply, valueReply, inOutNumber, sumNumber, sumLeft, reduceNumber, reduceLeft, convertLeft}
+use Rattle.meaning.specs.Calls.{moveNumber, moveLeft}
+use Rattle.meaning.specs.Datum.{movedPoint, moved}
 use Rattle.theory.specs.AcceptedCalls.{number-reply}
-use Rattle.theory.specs.Congruence.{cong-of-eq, cong-sym, cong-trans, mod-cong}
+use Rattle.theory.specs.Congruence.{Cong, cong-of-eq, cong-sym, cong-trans, cong-add-right, mod-cong}
 use Rattle.theory.specs.Every.{true-iff, every-iff}
 use Rattle.theory.specs.Tables.{length-tabulate, at-tabulate}
 use Rattle.theory.specs.Integers.{residue-boxAt}
 use Rattle.theory.specs.Values.{value-cong-point}
-use Rattle.theory.specs.DemandThree.{value-total, value-cong-normal}
+use Rattle.theory.specs.DemandThree.{value-total, boxReduced-normal, value-boxReduced}
+use Rattle.theory.specs.WholeNumbers.{residue-coordinates}
+use Rattle.theory.specs.MovedPoints.{residue-at, at-movedPoint}
+use Rattle.theory.specs.Moved.{boxAt-moved, boxAt-movedPoint, moved-normal, moved-unique, moved-zero-normal}
 use Rattle.theory.specs.ConversionLaws.{value-fallingBox, eval-powerBox, fallingBox-bounded, powerBox-bounded}
 use Rattle.theory.specs.Widths.{bound-pos}
 use Rattle.demand3.specs.Words.{boxValue, PointOf, NormalForm, SumOf}
 use Rattle.demand3.specs.Tests.{and-true, false-true, suc-zero}
 use Rattle.demand3.specs.Settings.{WidthFits, Lengths, CallPasses, exactly, call-iff}
-use Rattle.demand3.specs.Promises.{Valued, Summed, Reduced, Judged, ToFalling, ToPowers, Normalised}
+use Rattle.demand3.specs.Promises.{Valued, Summed, Reduced, DatumMoved, Judged, ToFalling, ToPowers, Normalised}
 use Rattle.demand3.specs.SameWords.{normal-iff}
+use Rattle.demand3.specs.Recovery.{value-eq}
 use Rattle.demand3.specs.Coefficients.{value-coefficients}
 use Rattle.demand3.specs.NormalForms.{normalBox-of, normal-form-unique}
 
@@ -46,12 +52,6 @@ accepted-iff : {C : Type 0} {cause number : ℕ} → (cause ≡ 0) ↔ C → num
 accepted-iff conditions e = (λ z. conditions .0 (sym e ∙ z), λ c. e ∙ conditions .1 c)
 
 -- ---- the value
-
-residue-at : (m : ℕ) (zs : List ℤ) (i : ℕ) → at (map (residue m) zs) i ≡ residue m (getD zs i (pos 0))
-unfolding residue
-residue-at m [] i = sym (zero-mod m)
-residue-at m (z ∷ zs) zero = refl
-residue-at m (z ∷ zs) (suc i) = residue-at m zs i
 
 value-at : (w : ℕ) (ds c xs : List ℕ) (zs : List ℤ) → PointOf w ds xs zs → value (2 ^ w) ds c xs ≡ boxValue w ds c zs
 value-at w ds c xs zs h =
@@ -89,20 +89,10 @@ total-sum w ds a b =
           ∙ sym (ap₂ (λ (x y : ℕ). (x + y) % 2 ^ w) (residue-boxAt (pow-pos w) ds a zs) (residue-boxAt (pow-pos w) ds b zs));
     }
 
-reduced-normal : (w : ℕ) (ds c : List ℕ) → Normal w ds (boxReduced (bound w) ds c)
-unfolding boxReduced
-reduced-normal w ds c =
-    record {
-      whole = length-tabulate (cells ds) _;
-      below = λ n l. rw (at-tabulate (cells ds) _ n l) (mod-lt (at c n) (bound-pos w (digits ds n)));
-    }
-
 reduced-value : (w : ℕ) (ds c : List ℕ) (zs : List ℤ) → boxValue w ds (boxReduced (bound w) ds c) zs ≡ boxValue w ds c zs
-unfolding boxReduced
 reduced-value w ds c zs =
     residue-boxAt (pow-pos w) ds (boxReduced (bound w) ds c) zs
-    ∙ value-cong-normal w ds (boxReduced (bound w) ds c) c (map (residue (2 ^ w)) zs)
-    (λ n l. cong-trans (cong-of-eq _ (at-tabulate (cells ds) _ n l)) (mod-cong _ (at c n)))
+    ∙ value-boxReduced w ds c (map (residue (2 ^ w)) zs)
     ∙ sym (residue-boxAt (pow-pos w) ds c zs)
 
 -- ---- settings and lengths
@@ -139,12 +129,44 @@ module _ (total w : ℕ) (support ds : List ℕ) where
   reduced c {number} {after} e f =
       record {
         accepted = passing (λ n. (c, n) ∷ []) e;
-        normal = λ z. rw (after-0 z) (normal-iff w ds (boxReduced (bound w) ds c) .0 (reduced-normal w ds c));
+        normal = λ z. rw (after-0 z) (normal-iff w ds (boxReduced (bound w) ds c) .0 (boxReduced-normal w ds c));
         values = λ z zs. rw (after-0 z) (reduced-value w ds c zs);
       }
     where
       after-0 : number ≡ 0 → after ≡ boxReduced (bound w) ds c
       after-0 z = f ∙ ap (λ (k : ℕ). left k (boxReduced (bound w) ds c) c) (sym e ∙ z)
+
+  -- ---- the datum
+
+  module _ (c os out : List ℕ) {number : ℕ} {after : List ℕ} (e : number ≡ moveNumber total w support ds c os out)
+      (f : after ≡ moveLeft total w support ds c os out) where
+    -- what is left after 0
+    pub after-move : number ≡ 0 → after ≡ moved w ds c os
+    unfolding moveLeft
+    after-move z = f ∙ ap (λ (k : ℕ). left k (moved w ds c os) out) (sym e ∙ z)
+
+    pub datum-moved : DatumMoved (Passes (λ n. (c, n) ∷ (os, length support) ∷ (out, n) ∷ [])) w ds c os number after
+    unfolding moveNumber
+    datum-moved =
+        record {
+          accepted = passing (λ n. (c, n) ∷ (os, length support) ∷ (out, n) ∷ []) e;
+          normal = λ z. rw (after-move z) (normal-iff w ds (moved w ds c os) .0 (moved-normal w ds c os));
+          values = λ z bs zs h. rw (after-move z) (boxAt-moved w ds c os bs zs h);
+          only = λ z bs h d n same.
+              moved-unique w ds c os d (normal-iff w ds d .1 n) (λ k l.
+              sym (value-eq w ds d (digits ds k))
+              ∙ same k l
+              ∙ boxAt-movedPoint w ds c os bs (map pos (digits ds k)) h
+              ∙ value-cong-point (2 ^ w) ds c _ _ (moved-coordinates (digits ds k)))
+              ∙ sym (after-move z);
+          still = λ z h n. after-move z ∙ moved-zero-normal w ds c os (normal-iff w ds c .1 n) (λ i l. record { same = h i l ∙ sym (zero-mod (2 ^ w)) });
+        }
+      where
+        moved-coordinates : (xs : List ℕ) (i : ℕ) → i < length ds
+            → Cong (2 ^ w) (at (movedPoint (map (residue (2 ^ w)) (map pos xs)) os) i) (at (movedPoint xs os) i)
+        moved-coordinates xs i l =
+            cong-trans (cong-of-eq (2 ^ w) (at-movedPoint (map (residue (2 ^ w)) (map pos xs)) os i))
+            (cong-trans (cong-add-right (at os i) (residue-coordinates (pow-pos w) xs i)) (cong-of-eq (2 ^ w) (sym (at-movedPoint xs os i))))
 
   -- ---- conversions
 

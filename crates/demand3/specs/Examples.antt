@@ -1,5 +1,5 @@
--- Examples, by computation: those that the page docs/DEMAND-3.md walks through, and four that show why the words of demand 3 say what they say and
--- not a little more or less.
+-- Examples, by computation: those that the page docs/DEMAND-3.md walks through, four that show why the words of demand 3 say what they say and not a little
+-- more or less, and moved forms.
 use mathlib.Core.Path.{_≡_, refl}
 use mathlib.Core.List.{List, [], _∷_, map}
 use Prim.Native.Nat.{ℕ, _^_}
@@ -15,7 +15,8 @@ use Rattle.meaning.specs.Integers.{residue, powerℤ}
 use Rattle.meaning.specs.Polynomials.{Term, termsAt, productℤ}
 use Rattle.meaning.specs.Conversions.{normalBox}
 use Rattle.meaning.specs.Settings.{widthFits}
-use Rattle.meaning.specs.Calls.{recoveryNumber, recoveryLeft, sumLeft}
+use Rattle.meaning.specs.Calls.{recoveryNumber, recoveryLeft, sumLeft, moveNumber}
+use Rattle.meaning.specs.Datum.{moved}
 use Rattle.demand3.specs.Words.{polynomialValue}
 
 -- one variable at width w: what recovery returns and leaves, with three or five numbers lent
@@ -85,3 +86,11 @@ pub deciding : (degreeCap 8 ≡ 10)
     × (output 8 9 (200 ∷ 197 ∷ 204 ∷ 221 ∷ 248 ∷ 29 ∷ 76 ∷ 133 ∷ 200 ∷ 21 ∷ []) ≡ 200 ∷ 253 ∷ 5 ∷ 0 ∷ 0 ∷ 0 ∷ 0 ∷ 0 ∷ 0 ∷ 0 ∷ [])
 unfolding widthFits recoveryLeft cells cell digits tabulate twos factorial oddPart lifted degreeCap
 deciding = (refl, refl)
+
+-- the datum of x (x - 1) at w 8, moved by 3, leaves (x + 3) (x + 2), and by 253, which is -3 modulo 256, (x - 3) (x - 4); x y moved by 2 and 5 leaves
+-- (x + 2) (y + 5); at w 2 a coefficient of 3 at degree 2, moved by nothing, leaves 1; two offsets for one variable are 9
+pub moved-cases : (moved 8 (2 ∷ []) (0 ∷ 0 ∷ 1 ∷ []) (3 ∷ []) ≡ 6 ∷ 6 ∷ 1 ∷ []) × (moved 8 (2 ∷ []) (0 ∷ 0 ∷ 1 ∷ []) (253 ∷ []) ≡ 12 ∷ 250 ∷ 1 ∷ [])
+    × (moved 8 (1 ∷ 1 ∷ []) (0 ∷ 0 ∷ 0 ∷ 1 ∷ []) (2 ∷ 5 ∷ []) ≡ 10 ∷ 5 ∷ 2 ∷ 1 ∷ []) × (moved 2 (2 ∷ []) (0 ∷ 0 ∷ 3 ∷ []) (0 ∷ []) ≡ 0 ∷ 0 ∷ 1 ∷ [])
+    × (moveNumber 1 8 (0 ∷ []) (1 ∷ []) (0 ∷ 1 ∷ []) (3 ∷ 4 ∷ []) (7 ∷ 7 ∷ []) ≡ 9)
+unfolding widthFits moved moveNumber cells cell digits tabulate twos factorial oddPart lifted value product sum falling
+moved-cases = (refl, refl, refl, refl, refl)

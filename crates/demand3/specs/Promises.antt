@@ -2,14 +2,15 @@
 -- own limit and its own lengths. The contracts of the compiled calls cite these records.
 use mathlib.Core.Path.{_≡_}
 use mathlib.Core.Logic.{_⊎_, _↔_}
-use Prim.Native.Nat.{ℕ, suc, _^_, _<_}
-use mathlib.Core.List.{List}
-use lib.IntN.{ℤ}
+use Prim.Native.Nat.{ℕ, suc, _%_, _^_, _<_}
+use mathlib.Core.List.{List, map}
+use lib.IntN.{ℤ, pos}
 use lib.ListN.{length}
 use Rattle.meaning.specs.Tables.{tabulate, at}
-use Rattle.meaning.specs.Boxes.{cells}
+use Rattle.meaning.specs.Boxes.{cells, digits}
 use Rattle.meaning.specs.Factorials.{degreeCap}
 use Rattle.meaning.specs.Polynomials.{Term}
+use Rattle.meaning.specs.Datum.{movedPointℤ}
 use Rattle.meaning.specs.Sameness.{Form, Same}
 use Rattle.meaning.specs.Replies.{Reply}
 use Rattle.demand3.specs.Words.{polynomialValue, boxValue, PointOf, OnGrid, Agreeing, BoxOnGrid, Disagreement, Deciding, Another}
@@ -56,6 +57,18 @@ pub record Reduced (C : Type 0) (w : ℕ) (ds c : List ℕ) (number : ℕ) (afte
   pub accepted : (number ≡ 0) ↔ C
   pub normal : number ≡ 0 → NormalForm w ds after
   pub values : number ≡ 0 → (zs : List ℤ) → boxValue w ds after zs ≡ boxValue w ds c zs
+
+-- the coefficient box c with its datum moved by the offsets os: bs are whole numbers, negative ones too, that are the offsets modulo 2^w
+pub record DatumMoved (C : Type 0) (w : ℕ) (ds c os : List ℕ) (number : ℕ) (after : List ℕ) : Type 0 where
+  pub accepted : (number ≡ 0) ↔ C
+  -- the output is a normal form, and at every whole-number point its value is that of c at the moved point
+  pub normal : number ≡ 0 → NormalForm w ds after
+  pub values : number ≡ 0 → (bs zs : List ℤ) → PointOf w ds os bs → boxValue w ds after zs ≡ boxValue w ds c (movedPointℤ zs bs)
+  -- it is the only one: no other normal form has these values even on the grid
+  pub only : number ≡ 0 → (bs : List ℤ) → PointOf w ds os bs → (e : List ℕ) → NormalForm w ds e
+      → ((n : ℕ) → n < cells ds → boxValue w ds e (map pos (digits ds n)) ≡ boxValue w ds c (movedPointℤ (map pos (digits ds n)) bs)) → e ≡ after
+  -- offsets of zero modulo 2^w leave a normal form as it is
+  pub still : number ≡ 0 → ((i : ℕ) → i < length ds → at os i % 2 ^ w ≡ 0) → NormalForm w ds c → after ≡ c
 
 -- the answer to whether the coefficient box c is a normal form: 1 exactly when the width fits and it is one, else 0
 pub record Judged (C : Type 0) (w : ℕ) (ds c : List ℕ) (answer : Reply) : Type 0 where

@@ -1,19 +1,15 @@
 -- Where all differences of an order are 0, so are those of every higher order: from there on a pass changes nothing.
-use mathlib.Core.Path.{_≡_, refl, sym, ap, ap₂, _∙_}
-use Prim.Native.Nat.{ℕ, zero, suc, _+_, _-_, _*_, _%_, _≤_, _<_}
-use native.Mathlib.Nat.{mod-self, zero-mod, sub-zero, zero-add, suc-add, le-trans, le-add-left, mul-le-mul-left}
+use mathlib.Core.Path.{_≡_, sym, ap₂, _∙_}
+use Prim.Native.Nat.{ℕ, zero, suc, _+_, _-_, _*_, _≤_, _<_}
+use native.Mathlib.Nat.{zero-add, suc-add, le-trans, le-add-left, mul-le-mul-left}
 use native.Mathlib.Decide.{decLe}
 use native.Mathlib.Omega.{arith}
 use mathlib.Core.List.{List}
-use lib.ListN.{length}
 use Rattle.meaning.specs.Tables.{at}
 use Rattle.meaning.specs.Differences.{minus}
 use Rattle.lines.specs.FlatTables.{lined}
 use Rattle.lines.specs.InPlace.{ZeroFrom, differenced, lined-differenced, lined-kept, NewtonPassed}
-
-minus-zero : (m : ℕ) → minus m 0 0 ≡ 0
-unfolding minus
-minus-zero m = rw (zero-mod m, sub-zero, zero-add) (mod-self m)
+use Rattle.lines.specs.NodeConversions.{minus-zero}
 
 module _ {m s d : ℕ} {f : ℕ → ℕ} {n : ℕ} {t : List ℕ} (pos : 0 < s) where
   -- one pass

@@ -19,7 +19,8 @@ use lib.Seq.{getD-set-same, getD-set-other}
 use Rattle.meaning.specs.Tables.{at}
 use Rattle.meaning.specs.Differences.{minus, diff, diffs, newton}
 use Rattle.theory.specs.Newton.{diffs-suc}
-use Rattle.lines.specs.FlatTables.{Line, Local, lined}
+use Rattle.lines.specs.FlatTables.{Local, lined}
+use Rattle.theory.specs.AlongEach.{Line}
 
 -- ---- tables that show functions
 

@@ -1,12 +1,14 @@
-// Both conversions of the lines of a block, in place and modulo 2^64, by repeated synthetic division. A block goes by a function that the compiler does not
-// move into its caller, so that differences do not pay for it: it calls itself where the stride is 0, which it never is.
+// Both conversions of the lines of a block, in place and modulo 2^64, as changes of nodes. A block goes by a function that the compiler does not move into
+// its caller, so that differences do not pay for it: it calls itself where the stride is 0, which it never is.
 ghost use mathlib.Core.Path.{_≡_};
 ghost use Prim.Native.Nat.{ℕ, suc, _+_, _*_, _^_, _<_};
 ghost use lib.ListN.{length};
 ghost use Rattle.meaning.specs.Tables.{tabulate, at};
 ghost use Rattle.meaning.specs.Stirling.{fallingLine, powerLine};
 ghost use Rattle.lines.specs.FlatTables.{lined};
-ghost use Rattle.lines.specs.SyntheticDivision.{Divided};
+ghost use Rattle.lines.specs.NodePasses.{Passed};
+ghost use Rattle.lines.specs.NodeOrders.{Opened};
+ghost use Rattle.lines.specs.NodeConversions.{toFalling, toPowers};
 use crate::fours;
 
 // Pass `done + 1` over a block, towards falling factorials: every coefficient from index `done + 1` on, the highest first, gets `done + 1` times
@@ -14,8 +16,8 @@ use crate::fours;
 fn divide(part: &mut [u64], stride: usize, degree: usize, done: usize)
     requires { ⌜ (0 < stride) × (done < degree) × (length (now part) ≡ stride * suc degree) ⌝ }
     ensures { λ r. ⌜ ((f : ℕ → ℕ)
-        → Divided (2 ^ 64) stride degree f (length (now (part .entry))) done (now (part .entry))
-        → Divided (2 ^ 64) stride degree f (length (now (part .entry))) (suc done) (now (part .exit))) ⌝ }
+        → Passed (2 ^ 64) toFalling stride degree f (length (now (part .entry))) (suc done) (now (part .entry))
+        → Passed (2 ^ 64) toFalling stride degree f (length (now (part .entry))) (suc (suc done)) (now (part .exit))) ⌝ }
 {
     let factor = done as u64 + 1;
     let end = stride * (done + 1);
@@ -46,8 +48,8 @@ fn divide(part: &mut [u64], stride: usize, degree: usize, done: usize)
 fn divide_twice(part: &mut [u64], done: usize)
     requires { ⌜ done + 2 < length (now part) ⌝ }
     ensures { λ r. ⌜ ((d : ℕ) (f : ℕ → ℕ) → length (now (part .entry)) ≡ suc d
-        → Divided (2 ^ 64) 1 d f (length (now (part .entry))) done (now (part .entry))
-        → Divided (2 ^ 64) 1 d f (length (now (part .entry))) (suc (suc done)) (now (part .exit))) ⌝ }
+        → Passed (2 ^ 64) toFalling 1 d f (length (now (part .entry))) (suc done) (now (part .entry))
+        → Passed (2 ^ 64) toFalling 1 d f (length (now (part .entry))) (suc (suc (suc done))) (now (part .exit))) ⌝ }
 {
     let factor = done as u64 + 1;
     let next = done as u64 + 2;
@@ -63,12 +65,13 @@ fn divide_twice(part: &mut [u64], done: usize)
     part[done + 1] = std::num::wrapping_add_u64(part[done + 1], arith::wrapping_mul(factor, one));
 }
 
-// The same pass undone: every coefficient from index `done + 1` on, the lowest first, gets `done + 1` times the next one subtracted. Two a turn.
+// Pass `done + 1` over a block, towards powers: every coefficient from index `done + 1` on, the lowest first, gets `done + 1` times the next one
+// subtracted. Two a turn.
 fn undivide(part: &mut [u64], stride: usize, degree: usize, done: usize)
     requires { ⌜ (0 < stride) × (done < degree) × (length (now part) ≡ stride * suc degree) ⌝ }
     ensures { λ r. ⌜ ((f : ℕ → ℕ)
-        → Divided (2 ^ 64) stride degree f (length (now (part .entry))) (suc done) (now (part .entry))
-        → Divided (2 ^ 64) stride degree f (length (now (part .entry))) done (now (part .exit))) ⌝ }
+        → Opened (2 ^ 64) (toPowers (2 ^ 64)) stride degree f (length (now (part .entry))) (suc (suc done)) (now (part .entry))
+        → Opened (2 ^ 64) (toPowers (2 ^ 64)) stride degree f (length (now (part .entry))) (suc done) (now (part .exit))) ⌝ }
 {
     let factor = done as u64 + 1;
     let last = part.len() - stride - 1;
@@ -136,7 +139,7 @@ pub(crate) fn divide_block(part: &mut [u64], stride: usize, degree: usize)
     divide_passes(part, stride, degree);
 }
 
-// All passes undone, the last one first: the lines go from falling factorials to powers.
+// All passes over a block, the last one first: its lines go from falling factorials to powers.
 fn undivide_passes(part: &mut [u64], stride: usize, degree: usize)
     requires { ⌜ (0 < stride) × (length (now part) ≡ stride * suc degree) ⌝ }
     ensures { λ r. ⌜ now (part .exit) ≡ tabulate (length (now (part .entry))) (lined (powerLine (2 ^ 64)) stride degree (at (now (part .entry)))) ⌝ }

@@ -25,7 +25,7 @@ pub enum Transform {
 
 // Whether the box of `degrees` has as many cells as the table has numbers. A table has fewer than 2^60 of them, so that a product from there on is not
 // taken.
-fn has_box(table: &[u64], degrees: &[u8]) -> bool
+pub fn has_box(table: &[u64], degrees: &[u8]) -> bool
     ensures { λ r. ⌜ r ≡ eqb (length (now (table .entry))) (cells (now (degrees .entry))) ⌝ }
 {
     let mut size = 1;

@@ -8,6 +8,7 @@ use Rattle.meaning.specs.Tables.{tabulate, at}
 use Rattle.meaning.specs.Boxes.{cells, digits}
 use Rattle.meaning.specs.Values.{value, bound, boxTotal, boxReduced}
 use Rattle.meaning.specs.Recovery.{every, accepts, answer}
+use Rattle.meaning.specs.Datum.{moved}
 use Rattle.meaning.specs.Sameness.{Form, sameForms}
 use Rattle.meaning.specs.Replies.{Reply, accepted, refused}
 use Rattle.meaning.specs.Settings.{widthFits, settingsNumber, limitedNumber, callNumber, first}
@@ -103,3 +104,14 @@ recoveryLeft total w support ds v out =
 unfoldable pub convertLeft : ℕ → ℕ → List ℕ → List ℕ → List ℕ → List ℕ → List ℕ → List ℕ
 unfolding callNumber
 convertLeft total w support ds c out done = left (inOutNumber false total w support ds c out) done out
+
+-- the move of a form: one table in and one out, both of the box's length, and an offset for each support variable
+unfoldable pub moveNumber : ℕ → ℕ → List ℕ → List ℕ → List ℕ → List ℕ → List ℕ → ℕ
+unfolding callNumber
+moveNumber total w support ds c os out =
+    callNumber false total (widthFits w) support ds
+    (eqb (length c) (cells ds) && eqb (length os) (length support) && eqb (length out) (cells ds))
+
+unfoldable pub moveLeft : ℕ → ℕ → List ℕ → List ℕ → List ℕ → List ℕ → List ℕ → List ℕ
+unfolding moveNumber moved
+moveLeft total w support ds c os out = left (moveNumber total w support ds c os out) (moved w ds c os) out

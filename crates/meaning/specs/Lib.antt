@@ -12,6 +12,7 @@ pub mod Polynomials
 pub mod Differences
 pub mod Conversions
 pub mod Recovery
+pub mod Datum
 pub mod Sameness
 pub mod Replies
 pub mod Settings

@@ -4,7 +4,8 @@
 use mathlib.Core.Path.{_≡_, refl, sym, ap, _∙_}
 use mathlib.Core.Logic.{_⊎_, inl, inr}
 use Prim.Native.Nat.{ℕ, zero, suc, _+_, _-_, _*_, _≤_, _<_}
-use native.Mathlib.Nat.{zero-lt-suc, not-suc-le-zero, le-of-suc-le-suc, mul-pos, sub-add-cancel, suc-sub-suc, eq-or-lt-of-le, le-of-eq, sub-eq-zero-of-le, lt-of-not-le}
+use native.Mathlib.Nat.{zero-lt-suc, not-suc-le-zero, le-of-suc-le-suc, le-refl, mul-pos, sub-add-cancel, suc-sub-suc, eq-or-lt-of-le, le-of-eq}
+use native.Mathlib.Nat.{sub-eq-zero-of-le, lt-of-not-le}
 use native.Mathlib.Decide.{decLe}
 use native.Mathlib.Omega.{arith}
 use Rattle.meaning.specs.Factorials.{factorial, falling}
@@ -15,6 +16,27 @@ unfoldable pub choose : ℕ → ℕ → ℕ
 choose x zero = 1
 choose zero (suc n) = 0
 choose (suc x) (suc n) = choose x n + choose x (suc n)
+
+-- there is no set of more than x things
+pub choose-zero : (x n : ℕ) → x < n → choose x n ≡ 0
+unfolding choose
+choose-zero x zero h = absurd (not-suc-le-zero h)
+choose-zero zero (suc n) h = refl
+choose-zero (suc x) (suc n) h = omega (arith, choose-zero x n (le-of-suc-le-suc h), choose-zero x (suc n) (omega arith))
+
+-- and one of all
+pub choose-self : (n : ℕ) → choose n n ≡ 1
+unfolding choose
+choose-self zero = refl
+choose-self (suc n) = omega (arith, choose-self n, choose-zero n (suc n) (le-refl (suc n)))
+
+-- x times the binomial coefficient
+pub mul-choose : (x n : ℕ) → x * choose x n ≡ suc n * choose x (suc n) + n * choose x n
+unfolding choose
+mul-choose zero zero = refl
+mul-choose zero (suc n) = omega arith
+mul-choose (suc x) zero = omega (arith, mul-choose x 0)
+mul-choose (suc x) (suc n) = omega (arith, mul-choose x n, mul-choose x (suc n))
 
 -- a factorial is above 0
 pub factorial-pos : (n : ℕ) → 0 < factorial n

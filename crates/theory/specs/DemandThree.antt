@@ -1,20 +1,21 @@
 -- Recovery at width w, in the words of its definition: the answer is a normal form; it agrees where it is accepted; it is accepted where some box
 -- agrees; the answer is the only normal form that agrees, and every other one disagrees at a grid point; two boxes that agree have the same values
--- everywhere; the value of a sum is the sum of the values. Each is recovery of tables modulo m with the cells of the width.
+-- everywhere; the value of a sum is the sum of the values; a reduced box is a normal form with the box's values. Each is recovery of tables modulo m with the cells of the width.
 use mathlib.Core.Path.{_≡_, sym, _∙_}
 use mathlib.Core.Logic.{_↔_}
 use Prim.Native.Nat.{ℕ, _+_, _%_, _^_, _<_}
+use native.Mathlib.Nat.{mod-lt}
 use mathlib.Core.List.{List}
 use lib.Dec.{T}
 use lib.Pow.{pow-pos}
 use Rattle.meaning.specs.Tables.{at}
 use Rattle.meaning.specs.Boxes.{cells, digits}
-use Rattle.meaning.specs.Values.{value, Agrees, bound, Normal, boxTotal}
+use Rattle.meaning.specs.Values.{value, Agrees, bound, Normal, boxTotal, boxReduced}
 use Rattle.meaning.specs.Recovery.{difference, divides, coefficient, accepts, answer}
-use Rattle.theory.specs.Congruence.{Cong}
-use Rattle.theory.specs.Tables.{tabulate-cong}
+use Rattle.theory.specs.Congruence.{Cong, cong-of-eq, cong-trans, mod-cong}
+use Rattle.theory.specs.Tables.{length-tabulate, at-tabulate, tabulate-cong}
 use Rattle.theory.specs.Every.{every-iff}
-use Rattle.theory.specs.Widths.{widthCell, divides-iff, Divided, divides-cases, coefficient-eq}
+use Rattle.theory.specs.Widths.{bound-pos, widthCell, divides-iff, Divided, divides-cases, coefficient-eq}
 use Rattle.theory.specs.DifferenceBounds.{difference-lt}
 use Rattle.theory.specs.GridRecovery.{DifferencesPass, solutions, solutionAt, solutions-bounded, solutions-agree, passes-of-agrees}
 use Rattle.theory.specs.GridRecovery.{bounded-unique, agrees-same, bounded-eq-of-values, value-cong-bounds, value-boxTotal}
@@ -80,3 +81,18 @@ module _ (w : ℕ) (ds : List ℕ) where
   -- the value of a sum of boxes is the sum of the values
   pub value-total : (c d xs : List ℕ) → value (2 ^ w) ds (boxTotal (bound w) ds c d) xs ≡ (value (2 ^ w) ds c xs + value (2 ^ w) ds d xs) % 2 ^ w
   value-total c d xs = value-boxTotal (pow-pos w) (widthCell w) ds c d xs
+
+  -- a box with each coefficient modulo its bound is a normal form with the same values
+  pub boxReduced-normal : (c : List ℕ) → Normal w ds (boxReduced (bound w) ds c)
+  unfolding boxReduced
+  boxReduced-normal c =
+      record {
+        whole = length-tabulate (cells ds) _;
+        below = λ n p. rw (at-tabulate (cells ds) (λ n. at c n % bound w (digits ds n)) n p) (mod-lt (at c n) (bound-pos w (digits ds n)));
+      }
+
+  pub value-boxReduced : (c xs : List ℕ) → value (2 ^ w) ds (boxReduced (bound w) ds c) xs ≡ value (2 ^ w) ds c xs
+  unfolding boxReduced
+  value-boxReduced c xs =
+      value-cong-normal (boxReduced (bound w) ds c) c xs
+      (λ n p. cong-trans (cong-of-eq _ (at-tabulate (cells ds) (λ n. at c n % bound w (digits ds n)) n p)) (mod-cong (bound w (digits ds n)) (at c n)))

@@ -34,6 +34,11 @@ pub mod CutPolynomials
 pub mod DecidingGrids
 pub mod OpenGrids
 pub mod ConversionLaws
+pub mod AlongEach
+pub mod Nodes
+pub mod MovedLines
+pub mod MovedPoints
+pub mod Moved
 pub mod Scattered
 pub mod SpreadBoxes
 pub mod SameForms

@@ -13,19 +13,9 @@ use Rattle.meaning.specs.Factorials.{falling}
 use Rattle.meaning.specs.Integers.{residue}
 use Rattle.meaning.specs.Stirling.{stirling2, stirling1}
 use Rattle.theory.specs.Congruence.{Cong, cong-of-eq, cong-sym, cong-trans, cong-add-left, cong-mul-left, cong-mul-right, cong-add-cancel-cong}
-use Rattle.theory.specs.Sums.{sum-last, sum-eq, sum-cong, sum-add, sum-mul-left, sum-zero}
+use Rattle.theory.specs.Sums.{sum-last, sum-eq, sum-cong, sum-add, sum-mul-left, sum-linear, sum-zero}
 use Rattle.theory.specs.Binomials.{falling-zero, mul-falling}
 use Rattle.theory.specs.Integers.{residue-pos, residue-mul, residue-sub}
-
--- a sum of terms with two parts
-sum-linear : (d n : ℕ) (p q w : ℕ → ℕ) → sum d (λ j. (p j + n * q j) * w j) ≡ sum d (λ j. p j * w j) + n * sum d (λ j. q j * w j)
-sum-linear d n p q w =
-    sum-eq d (λ j h. term j)
-    ∙ sum-add d (λ j. p j * w j) (λ j. n * (q j * w j))
-    ∙ ap (sum d (λ j. p j * w j) +_) (sum-mul-left d n (λ j. q j * w j))
-  where
-    term : (j : ℕ) → (p j + n * q j) * w j ≡ p j * w j + n * (q j * w j)
-    term j = omega arith
 
 -- 1 where the two are equal, else 0
 unfoldable pub delta : ℕ → ℕ → ℕ

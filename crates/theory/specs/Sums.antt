@@ -40,6 +40,16 @@ sum-mul-left (suc n) c f = omega (arith, sum-mul-left n c (λ i. f (suc i)))
 pub sum-mul-right : (n c : ℕ) (f : ℕ → ℕ) → sum n (λ i. f i * c) ≡ sum n f * c
 sum-mul-right n c f = sum-eq n (λ i p. mul-comm (f i) c) ∙ sum-mul-left n c f ∙ mul-comm c (sum n f)
 
+-- a sum of terms with two parts
+pub sum-linear : (d n : ℕ) (p q w : ℕ → ℕ) → sum d (λ j. (p j + n * q j) * w j) ≡ sum d (λ j. p j * w j) + n * sum d (λ j. q j * w j)
+sum-linear d n p q w =
+    sum-eq d (λ j h. term j)
+    ∙ sum-add d (λ j. p j * w j) (λ j. n * (q j * w j))
+    ∙ ap (sum d (λ j. p j * w j) +_) (sum-mul-left d n (λ j. q j * w j))
+  where
+    term : (j : ℕ) → (p j + n * q j) * w j ≡ p j * w j + n * (q j * w j)
+    term j = omega arith
+
 -- a sum of zeros
 pub sum-zero : (n : ℕ) {f : ℕ → ℕ} → ((i : ℕ) → i < n → f i ≡ 0) → sum n f ≡ 0
 unfolding sum

@@ -15,7 +15,7 @@ use Rattle.meaning.specs.Boxes.{cells}
 use Rattle.lines.specs.declared.Transform.{Transform}
 use Rattle.lines.specs.Transforms.{lineOf}
 use Rattle.lines.specs.TransformLaws.{lineOf-local}
-use Rattle.lines.proofs.FlatLoops.{walk-along, walk-short, first-rest, first-divides}
+use Rattle.lines.specs.FlatLoops.{walk-along, walk-short, first-rest, first-divides}
 use Rattle.lines.proofs.transform_all.Statement.{statement}
 use Rattle.lines.proofs.transform_all.Tie as tie
 

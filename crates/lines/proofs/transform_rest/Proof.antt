@@ -7,7 +7,7 @@ use Rattle.meaning.specs.Tables.{at}
 use Rattle.lines.specs.FlatTables.{Local, strided}
 use Rattle.lines.specs.Transforms.{lineOf}
 use Rattle.lines.specs.TransformLaws.{lineOf-local}
-use Rattle.lines.proofs.FlatLoops.{Variables, variables-start, block-fits, block-divides, variables-step, variables-done}
+use Rattle.lines.specs.FlatLoops.{Variables, variables-start, block-fits, block-divides, variables-step, variables-done}
 use Rattle.lines.proofs.transform_rest.Statement.{statement}
 use Rattle.lines.proofs.transform_rest.Tie as tie
 

@@ -9,8 +9,8 @@ use Rattle.theory.specs.Parts.{length-part}
 use Rattle.lines.specs.FlatTables.{Local}
 use Rattle.lines.specs.Transforms.{lineOf}
 use Rattle.lines.specs.TransformLaws.{lineOf-local}
-use Rattle.lines.proofs.LowDegrees.{low-left}
-use Rattle.lines.proofs.FlatLoops.{Blocks, blocks-start, blocks-step, blocks-done}
+use Rattle.lines.specs.LowDegrees.{low-left}
+use Rattle.lines.specs.FlatLoops.{Blocks, blocks-start, blocks-step, blocks-done}
 use Rattle.lines.proofs.transform_variable.Statement.{statement}
 use Rattle.lines.proofs.transform_variable.Tie as tie
 

@@ -5,7 +5,7 @@ use Prim.Native.Nat.{_-_, _^_}
 use native.Mathlib.Omega.{arith}
 use lib.ListN.{length, length-set}
 use Rattle.meaning.specs.Differences.{newton}
-use Rattle.lines.proofs.RowLoops.{Rows, rows-start, rows-done, newton-rows-step}
+use Rattle.lines.specs.RowLoops.{Rows, rows-start, rows-done, newton-rows-step}
 use Rattle.lines.proofs.differences.difference_rows.Statement.{statement}
 use Rattle.lines.proofs.differences.difference_rows.Tie as tie
 

@@ -1,13 +1,14 @@
--- The loop goes down, two places a turn: from place i on the pass is done, below i not yet, for whatever coefficients f the block was passed from; the
+-- The loop goes down, two places a turn: from place i on the pass is made, below i not yet, for whatever coefficients f the block had at first; the
 -- measure is i. A place that is left over comes last. The pass ends at index done + 1, below which it changes nothing.
 use borrow.Author.Needs.{needs}
 use mathlib.Core.Path.{_≡_, refl}
 use native.Mathlib.Omega.{arith}
 use native.Mathlib.Nat.{mul-le-mul-left}
-use Prim.Native.Nat.{ℕ, _+_, _-_, _*_, _^_, _≤_}
+use Prim.Native.Nat.{ℕ, suc, _+_, _-_, _*_, _^_, _≤_}
 use lib.ListN.{length, length-set}
-use Rattle.lines.specs.SyntheticDivision.{Divided, Dividing, divide-start, divide-step, divide-done}
-use Rattle.lines.proofs.DivisionPasses.{sum-of-product}
+use Rattle.lines.specs.NodePasses.{Passed, Passing, pass-start, pass-step, pass-done}
+use Rattle.lines.specs.NodeConversions.{toFalling}
+use Rattle.lines.specs.DivisionPasses.{sum-of-product}
 use Rattle.lines.proofs.division.divide.Statement.{statement}
 use Rattle.lines.proofs.division.divide.Tie as tie
 
@@ -15,7 +16,8 @@ abbrev Inv-loop : tie.InvT-loop
 Inv-loop part₀ stride degree done factor end i₀ part i =
     (length part ≡ length part₀)
     × (i ≤ stride * degree)
-    × ((f : ℕ → ℕ) → Divided (2 ^ 64) stride degree f (length part₀) done part₀ → Dividing (2 ^ 64) stride degree f (length part₀) done i part)
+    × ((f : ℕ → ℕ) → Passed (2 ^ 64) toFalling stride degree f (length part₀) (suc done) part₀
+    → Passing (2 ^ 64) toFalling stride degree f (length part₀) (suc done) i part)
 
 abbrev μ-loop : tie.MeasureT-loop
 μ-loop part₀ stride degree done factor end i₀ part i = i
@@ -40,7 +42,7 @@ divide-spec =
     let s = c .before in
     let k = s .args in
     let e : length (k .part .now) - k .stride ≡ k .stride * k .degree = omega arith in
-    (refl, omega arith, λ f r. rw e (divide-start (s .pre .0) (s .pre .2) r)))
+    (refl, omega arith, λ f r. rw e (pass-start (s .pre .0) (s .pre .2) r)))
     (λ c.
     let s = start c in
     let k = s .args in
@@ -61,8 +63,8 @@ divide-spec =
       simp length-set (l .loop .inv .0),
       omega arith,
       λ f r.
-          divide-step (s .pre .0) (s .pre .2) (omega arith) (omega arith)
-          (divide-step (s .pre .0) (s .pre .2) (omega arith) (omega arith) (l .loop .inv .2 f r) _ number) _ next,
+          pass-step (s .pre .0) (s .pre .2) (omega arith) (omega arith)
+          (pass-step (s .pre .0) (s .pre .2) (omega arith) (omega arith) (l .loop .inv .2 f r) _ number) _ next,
     ))
     (λ c. search needs) (λ c. search needs) (λ c. search needs) (λ c. search needs) (λ c. search needs) (λ c. search needs) (λ c κs. search needs)
     (λ c κs. search needs) (λ c. search needs) (λ c. search needs)
@@ -72,10 +74,10 @@ divide-spec =
     let s = start l in
     let number = sum-of-product _ (s .args .done) _ _ (c .before .wrapping-mul3 .ensures) (c .wrapping-add-u643 .ensures) in
     λ f r.
-    divide-done (s .pre .0) (s .pre .2) (omega arith)
-    (divide-step (s .pre .0) (s .pre .2) (omega arith) (omega arith) (l .loop .inv .2 f r) _ number))
+    pass-done (s .pre .0) (s .pre .2) (omega arith)
+    (pass-step (s .pre .0) (s .pre .2) (omega arith) (omega arith) (l .loop .inv .2 f r) _ number))
     (λ c. c .before .before .loop .inv .0)
     (λ c.
     let l = c .before .before in
     let s = start l in
-    λ f r. divide-done (s .pre .0) (s .pre .2) (omega arith) (l .loop .inv .2 f r)))
+    λ f r. pass-done (s .pre .0) (s .pre .2) (omega arith) (l .loop .inv .2 f r)))

@@ -6,8 +6,9 @@ use Prim.Native.Nat.{ℕ, suc, _+_, _-_, _*_, _%_, _^_, _≤_, _<_}
 use native.Mathlib.Numerals.{add-one}
 use native.Mathlib.Omega.{arith}
 use lib.ListN.{length, length-set}
-use Rattle.lines.specs.SyntheticDivision.{Divided}
-use Rattle.lines.proofs.DivisionPasses.{sum-of-product}
+use Rattle.lines.specs.NodePasses.{Passed}
+use Rattle.lines.specs.NodeConversions.{toFalling}
+use Rattle.lines.specs.DivisionPasses.{sum-of-product}
 use Rattle.lines.proofs.LinePasses.{Both, both-start, both-step, both-done}
 use Rattle.lines.proofs.division.divide_twice.Statement.{statement}
 use Rattle.lines.proofs.division.divide_twice.Tie as tie
@@ -17,7 +18,8 @@ Inv-loop part₀ done factor next i₀ one₀ two₀ part i one two =
     (length part ≡ length part₀)
     × (done + 2 ≤ i)
     × (i < length part)
-    × ((d : ℕ) (f : ℕ → ℕ) → length part₀ ≡ suc d → Divided (2 ^ 64) 1 d f (length part₀) done part₀ → Both d done f (length part₀) part i one two)
+    × ((d : ℕ) (f : ℕ → ℕ) → length part₀ ≡ suc d → Passed (2 ^ 64) toFalling 1 d f (length part₀) (suc done) part₀
+    → Both d (suc done) f (length part₀) part i one two)
 
 abbrev μ-loop : tie.MeasureT-loop
 μ-loop part₀ done factor next i₀ one₀ two₀ part i one two = i

@@ -1,4 +1,4 @@
--- The loop goes up from index done + 1, two places a turn: before place i the pass is undone, from i on not yet, for whatever coefficients f; the measure
+-- The loop goes up from index done + 1, two places a turn: before place i the pass is made, from i on not yet, for whatever coefficients f; the measure
 -- is the places left. A place that is left over comes last. The pass ends below the highest index, which it does not change.
 use borrow.Author.Needs.{needs}
 use mathlib.Core.Path.{_≡_, refl}
@@ -7,8 +7,9 @@ use native.Mathlib.Nat.{mul-le-mul-left, mul-pos}
 use Prim.Native.Nat.{ℕ, suc, _+_, _-_, _*_, _^_, _≤_, _<_}
 use lib.ListN.{length, length-set}
 use lib.Pow.{pow-pos}
-use Rattle.lines.specs.SyntheticDivision.{Divided, Dividing, undivide-start, undivide-step, undivide-done}
-use Rattle.lines.proofs.DivisionPasses.{difference-of-product}
+use Rattle.lines.specs.NodeOrders.{Opened, Opening, open-start, open-step, open-done}
+use Rattle.lines.specs.NodeConversions.{toPowers}
+use Rattle.lines.specs.DivisionPasses.{difference-of-product}
 use Rattle.lines.proofs.division.undivide.Statement.{statement}
 use Rattle.lines.proofs.division.undivide.Tie as tie
 
@@ -16,7 +17,8 @@ abbrev Inv-loop : tie.InvT-loop
 Inv-loop part₀ stride degree done factor last i₀ part i =
     (length part ≡ length part₀)
     × (stride * suc done ≤ i)
-    × ((f : ℕ → ℕ) → Divided (2 ^ 64) stride degree f (length part₀) (suc done) part₀ → Dividing (2 ^ 64) stride degree f (length part₀) done i part)
+    × ((f : ℕ → ℕ) → Opened (2 ^ 64) (toPowers (2 ^ 64)) stride degree f (length part₀) (suc (suc done)) part₀
+    → Opening (2 ^ 64) (toPowers (2 ^ 64)) stride degree f (length part₀) (suc done) i part)
 
 abbrev μ-loop : tie.MeasureT-loop
 μ-loop part₀ stride degree done factor last i₀ part i = last - i
@@ -44,7 +46,7 @@ undivide-spec =
     let s = c .before in
     let k = s .args in
     let e : k .stride * (k .done + 1) ≡ k .stride * suc (k .done) = omega arith in
-    (refl, omega arith, λ f r. rw e (undivide-start (s .pre .0) (s .pre .2) r)))
+    (refl, omega arith, λ f r. rw e (open-start (s .pre .0) (s .pre .2) r)))
     (λ c. search needs) (λ c. search needs) (λ c. search needs) (λ c. search needs) (λ c. search needs) (λ c κs. search needs) (λ c κs. search needs)
     (λ c. search needs) (λ c. search needs) (λ c. search needs)
     (λ c. search needs) (λ c. simp length-set (omega arith)) (λ c. search needs) (λ c. search needs) (λ c. simp length-set (omega arith))
@@ -63,8 +65,8 @@ undivide-spec =
       omega arith,
       λ f r.
           rw two at
-          (undivide-step (s .pre .0) (s .pre .2) (pow-pos 64) (omega arith) (omega arith)
-          (undivide-step (s .pre .0) (s .pre .2) (pow-pos 64) (omega arith) (omega arith) (l .loop .inv .2 f r) _ number) _ next),
+          (open-step (s .pre .0) (s .pre .2) (omega arith) (omega arith)
+          (open-step (s .pre .0) (s .pre .2) (omega arith) (omega arith) (l .loop .inv .2 f r) _ number) _ next),
     ))
     (λ c. search needs) (λ c. search needs) (λ c. search needs) (λ c. search needs) (λ c. search needs) (λ c κs. search needs) (λ c κs. search needs)
     (λ c. search needs) (λ c. search needs)
@@ -74,10 +76,10 @@ undivide-spec =
     let s = start l in
     let number = difference-of-product _ (s .args .done) _ _ (pow-pos 64) (c .before .wrapping-mul3 .ensures) (c .wrapping-sub3 .ensures) in
     λ f r.
-    undivide-done (s .pre .0) (s .pre .2) (omega (arith, some s))
-    (undivide-step (s .pre .0) (s .pre .2) (pow-pos 64) (omega arith) (omega (arith, some s)) (l .loop .inv .2 f r) _ number))
+    open-done (s .pre .0) (s .pre .2) (omega (arith, some s))
+    (open-step (s .pre .0) (s .pre .2) (omega arith) (omega (arith, some s)) (l .loop .inv .2 f r) _ number))
     (λ c. c .before .before .loop .inv .0)
     (λ c.
     let l = c .before .before in
     let s = start l in
-    λ f r. undivide-done (s .pre .0) (s .pre .2) (omega (arith, c .if1 .left, c .before .loop-test .left)) (l .loop .inv .2 f r)))
+    λ f r. open-done (s .pre .0) (s .pre .2) (omega (arith, c .if1 .left, c .before .loop-test .left)) (l .loop .inv .2 f r)))

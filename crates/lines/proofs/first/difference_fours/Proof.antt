@@ -7,7 +7,7 @@ use native.Mathlib.Omega.{arith}
 use lib.ListN.{length, length-set}
 use Rattle.meaning.specs.Tables.{at}
 use Rattle.meaning.specs.Differences.{minus}
-use Rattle.lines.proofs.Neighbours.{Neighbours, newtonLine, neighbours-start, neighbours-done, fours-step}
+use Rattle.lines.specs.Neighbours.{Neighbours, newtonLine, neighbours-start, neighbours-done, fours-step}
 use Rattle.lines.proofs.first.difference_fours.Statement.{statement}
 use Rattle.lines.proofs.first.difference_fours.Tie as tie
 

@@ -3,7 +3,7 @@ use borrow.Author.Needs.{needs}
 use Prim.Native.Nat.{_-_, _≤_}
 use native.Mathlib.Omega.{arith}
 use lib.ListN.{length, length-set}
-use Rattle.lines.proofs.Neighbours.{Neighbours, newtonLine, neighbours-start, neighbours-done, twos-step}
+use Rattle.lines.specs.Neighbours.{Neighbours, newtonLine, neighbours-start, neighbours-done, twos-step}
 use Rattle.lines.proofs.first.difference_twos.Statement.{statement}
 use Rattle.lines.proofs.first.difference_twos.Tie as tie
 

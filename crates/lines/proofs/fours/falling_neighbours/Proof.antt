@@ -5,8 +5,8 @@ use native.Mathlib.Omega.{arith}
 use lib.ListN.{length, length-set}
 use Rattle.meaning.specs.Tables.{at}
 use Rattle.meaning.specs.Stirling.{fallingLine}
-use Rattle.lines.proofs.FourTerms.{falling-four}
-use Rattle.lines.proofs.Neighbours.{Neighbours, neighbours-start, neighbours-done, inner-step}
+use Rattle.lines.specs.FourTerms.{falling-four}
+use Rattle.lines.specs.Neighbours.{Neighbours, neighbours-start, neighbours-done, inner-step}
 use Rattle.lines.proofs.fours.falling_neighbours.Statement.{statement}
 use Rattle.lines.proofs.fours.falling_neighbours.Tie as tie
 

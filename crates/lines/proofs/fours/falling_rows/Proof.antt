@@ -8,8 +8,8 @@ use lib.Pow.{pow-pos}
 use Rattle.meaning.specs.Tables.{at}
 use Rattle.meaning.specs.Differences.{minus}
 use Rattle.meaning.specs.Stirling.{fallingLine}
-use Rattle.lines.proofs.FourTerms.{falling-four}
-use Rattle.lines.proofs.RowLoops.{Rows, rows-start, rows-step, rows-done, second-number, third-number, last-number}
+use Rattle.lines.specs.FourTerms.{falling-four}
+use Rattle.lines.specs.RowLoops.{Rows, rows-start, rows-step, rows-done, second-number, third-number, last-number}
 use Rattle.lines.proofs.fours.falling_rows.Statement.{statement}
 use Rattle.lines.proofs.fours.falling_rows.Tie as tie
 

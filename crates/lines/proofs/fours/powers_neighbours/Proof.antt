@@ -6,8 +6,8 @@ use lib.ListN.{length, length-set}
 use lib.Pow.{pow-pos}
 use Rattle.meaning.specs.Tables.{at}
 use Rattle.meaning.specs.Stirling.{powerLine}
-use Rattle.lines.proofs.FourTerms.{powers-four}
-use Rattle.lines.proofs.Neighbours.{Neighbours, neighbours-start, neighbours-done, inner-step}
+use Rattle.lines.specs.FourTerms.{powers-four}
+use Rattle.lines.specs.Neighbours.{Neighbours, neighbours-start, neighbours-done, inner-step}
 use Rattle.lines.proofs.fours.powers_neighbours.Statement.{statement}
 use Rattle.lines.proofs.fours.powers_neighbours.Tie as tie
 

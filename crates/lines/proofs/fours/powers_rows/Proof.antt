@@ -8,8 +8,8 @@ use lib.Pow.{pow-pos}
 use Rattle.meaning.specs.Tables.{at}
 use Rattle.meaning.specs.Differences.{minus}
 use Rattle.meaning.specs.Stirling.{powerLine}
-use Rattle.lines.proofs.FourTerms.{powers-four}
-use Rattle.lines.proofs.RowLoops.{Rows, rows-start, rows-step, rows-done, second-number, third-number, last-number}
+use Rattle.lines.specs.FourTerms.{powers-four}
+use Rattle.lines.specs.RowLoops.{Rows, rows-start, rows-step, rows-done, second-number, third-number, last-number}
 use Rattle.lines.proofs.fours.powers_rows.Statement.{statement}
 use Rattle.lines.proofs.fours.powers_rows.Tie as tie
 

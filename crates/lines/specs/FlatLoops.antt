@@ -14,7 +14,8 @@ use Rattle.meaning.specs.Tables.{tabulate, at}
 use Rattle.meaning.specs.Boxes.{cells, cell, digits, along}
 use Rattle.theory.specs.Tables.{Filled, filled-start, filled-done, length-tabulate, at-tabulate, eq-tabulate, tabulate-cong}
 use Rattle.theory.specs.Boxes.{cells-pos}
-use Rattle.lines.specs.FlatTables.{Line, Local, alongEach, alongEach-same, boxed, strided, lined, blocked, strided-step, strided-nil, strided-one, boxed-eq-along, blocked-eq-lined, lined-cong, strided-cong}
+use Rattle.theory.specs.AlongEach.{Line, alongEach, alongEach-same}
+use Rattle.lines.specs.FlatTables.{Local, boxed, strided, lined, blocked, strided-step, strided-nil, strided-one, boxed-eq-along, blocked-eq-lined, lined-cong, strided-cong}
 use Rattle.theory.specs.Parts.{part, put, length-part, at-part, filled-part}
 
 -- the blocks before place `from` are transformed
@@ -154,15 +155,16 @@ module _ (lines : ℕ → Line) (local : (i : ℕ) → Local (lines i)) (ds : Li
         ∙ ap (λ (l : List ℕ). strided (λ l. lines (i + l)) s l (at t) j) last
         ∙ strided-nil (λ l. lines (i + l)) s (at t) j (omega (arith, r .same)))
 
--- from the first variable on, with one transform for all
+-- from the first variable on
+pub walk-each : (lines : ℕ → Line) (ds t : List ℕ)
+    → tabulate (length t) (strided lines 1 ds (at t)) ≡ tabulate (length t) (λ n. alongEach lines ds (λ xs. at t (cell ds xs)) (digits ds n))
+walk-each lines ds t = tabulate-cong (length t) _ _ (λ n p. strided-one lines ds (at t) n ∙ boxed-eq-along lines ds (at t) n)
+
+-- with one transform for all
 pub walk-along : (line : Line) (ds t : List ℕ)
     → tabulate (length t) (strided (λ l. line) 1 ds (at t)) ≡ tabulate (length t) (λ n. along line ds (λ xs. at t (cell ds xs)) (digits ds n))
 walk-along line ds t =
-    tabulate-cong (length t) _ _
-    (λ n p.
-    strided-one (λ l. line) ds (at t) n
-    ∙ boxed-eq-along (λ l. line) ds (at t) n
-    ∙ alongEach-same line ds (λ xs. at t (cell ds xs)) (digits ds n))
+    walk-each (λ l. line) ds t ∙ tabulate-cong (length t) _ _ (λ n p. alongEach-same line ds (λ xs. at t (cell ds xs)) (digits ds n))
 
 -- where the first variable is done, u being the table after it, the others are left
 pub walk-first : (line : Line) → Local line → (d : ℕ) (ds t u : List ℕ) → length t ≡ cells (d ∷ ds) → u ≡ tabulate (length t) (blocked line 1 d (at t))

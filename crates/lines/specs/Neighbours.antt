@@ -12,8 +12,9 @@ use lib.Seq.{getD-set-other}
 use Rattle.meaning.specs.Tables.{tabulate, at}
 use Rattle.meaning.specs.Differences.{minus, diff, diffs, newton}
 use Rattle.theory.specs.Tables.{Filled, filled-start, filled-step, filled-done}
-use Rattle.lines.specs.FlatTables.{Line, lined, blocked, blocked-eq-lined}
-use Rattle.lines.proofs.FourTerms.{Four}
+use Rattle.lines.specs.FlatTables.{lined, blocked, blocked-eq-lined}
+use Rattle.theory.specs.AlongEach.{Line}
+use Rattle.lines.specs.FourTerms.{Four}
 
 -- number x of line c
 first-at : (line : Line) (d : ℕ) (f : ℕ → ℕ) (c x : ℕ) → x ≤ d → blocked line 1 d f (c * suc d + x) ≡ line d (λ y. f (c * suc d + y)) x
@@ -143,4 +144,40 @@ module _ (line : Line) (t₀ t : List ℕ) (i : ℕ) (r : Neighbours line 3 t₀
           getD-set-other (set t (i + 1) a) (i + 2) (i + 3) b 0 (omega arith)
           ∙ getD-set-other t (i + 1) (i + 3) a 0 (omega arith)
           ∙ sym (four .last)
+          ∙ number line 3 t₀ t i r 3 (omega arith)
+
+-- ---- moves of degree 3
+
+module _ (line : Line) (t₀ t : List ℕ) (i : ℕ) (r : Neighbours line 3 t₀ t i) where
+  pub lower-step : (x y z : ℕ) → i + 3 < length t → x ≡ line 3 (λ n. at t (i + n)) 0 → y ≡ line 3 (λ n. at t (i + n)) 1 → z ≡ line 3 (λ n. at t (i + n)) 2
+      → line 3 (λ n. at t (i + n)) 3 ≡ at t (i + 3) → Neighbours line 3 t₀ (set (set (set t i x) (i + 1) y) (i + 2) z) (i + 4)
+  lower-step x y z h e₀ e₁ e₂ e₃ = neighbours-step line 3 t₀ t i r after (rw four-places at (filled-keep _ t₀ after (i + 3) third last))
+    where
+      after : List ℕ
+      after = set (set (set t i x) (i + 1) y) (i + 2) z
+
+      two : i + 1 + 1 ≡ i + 2
+      two = omega arith
+
+      three : i + 2 + 1 ≡ i + 3
+      three = omega arith
+
+      four-places : i + 3 + 1 ≡ i + 4
+      four-places = omega arith
+
+      first : Filled (blocked line 1 3 (at t₀)) t₀ (set t i x) (i + 1)
+      first = filled-step _ t₀ t i x (r .filled) (omega arith) (rw (add-zero i) at (e₀ ∙ number line 3 t₀ t i r 0 zero-le))
+
+      second : Filled (blocked line 1 3 (at t₀)) t₀ (set (set t i x) (i + 1) y) (i + 2)
+      second = rw two at (filled-step _ t₀ (set t i x) (i + 1) y first (simp length-set (omega arith)) (e₁ ∙ number line 3 t₀ t i r 1 (omega arith)))
+
+      third : Filled (blocked line 1 3 (at t₀)) t₀ after (i + 3)
+      third = rw three at (filled-step _ t₀ (set (set t i x) (i + 1) y) (i + 2) z second (simp length-set (omega arith)) (e₂ ∙ number line 3 t₀ t i r 2 (omega arith)))
+
+      last : at after (i + 3) ≡ blocked line 1 3 (at t₀) (i + 3)
+      last =
+          getD-set-other (set (set t i x) (i + 1) y) (i + 2) (i + 3) z 0 (omega arith)
+          ∙ getD-set-other (set t i x) (i + 1) (i + 3) y 0 (omega arith)
+          ∙ getD-set-other t i (i + 3) x 0 (omega arith)
+          ∙ sym e₃
           ∙ number line 3 t₀ t i r 3 (omega arith)

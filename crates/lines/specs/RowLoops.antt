@@ -12,9 +12,10 @@ use Rattle.meaning.specs.Tables.{tabulate, at}
 use Rattle.meaning.specs.Differences.{minus, diff, diffs, newton}
 use Rattle.meaning.specs.Stirling.{fallingLine, powerLine}
 use Rattle.theory.specs.Tables.{eq-tabulate}
-use Rattle.lines.specs.FlatTables.{Line, lined}
+use Rattle.lines.specs.FlatTables.{lined}
+use Rattle.theory.specs.AlongEach.{Line}
 use Rattle.lines.specs.InPlace.{lined-at, index-lt}
-use Rattle.lines.proofs.FourTerms.{Four, falling-four, powers-four}
+use Rattle.lines.specs.FourTerms.{Four, falling-four, powers-four}
 
 -- the lines with offsets below i are done
 pub record Rows (line : Line) (s : ℕ) (t₀ t : List ℕ) (i : ℕ) : Type 0 where
@@ -138,6 +139,50 @@ module _ (line : Line) (s : ℕ) (t₀ : List ℕ) where
                 let e : 3 * s + i ≡ s + s + s + i = omega arith in
                 ap (at after) e ∙ getD-set-same inner (s + s + s + i) c 0 (simp length-set (omega (arith, r .same))) ∙ e₃
             here (suc (suc (suc (suc x)))) l = absurd (omega arith)
+
+      -- its three lower numbers are set
+      pub rows-step-low : (x y z : ℕ) → x ≡ line 3 number 0 → y ≡ line 3 number 1 → z ≡ line 3 number 2 → line 3 number 3 ≡ number 3
+          → Rows line s t₀ (set (set (set t i x) (s + i) y) (s + s + i) z) (i + 1)
+      rows-step-low x y z e₀ e₁ e₂ e₃ = next-rows after (simp length-set) stays here
+        where
+          low : List ℕ
+          low = set t i x
+
+          middle : List ℕ
+          middle = set low (s + i) y
+
+          after : List ℕ
+          after = set middle (s + s + i) z
+
+          other : (p : ℕ) → p ≢ i → p ≢ s + i → p ≢ s + s + i → at after p ≡ at t p
+          other p u v w = getD-set-other middle (s + s + i) p z 0 w ∙ getD-set-other low (s + i) p y 0 v ∙ getD-set-other t i p x 0 u
+
+          stays : (n q : ℕ) → n ≤ 3 → q < s → q ≢ i → at after (n * s + q) ≡ at t (n * s + q)
+          stays zero q l k u = other (0 * s + q) (omega arith) (omega arith) (omega arith)
+          stays (suc zero) q l k u = other (1 * s + q) (omega arith) (omega arith) (omega arith)
+          stays (suc (suc zero)) q l k u = other (2 * s + q) (omega arith) (omega arith) (omega arith)
+          stays (suc (suc (suc zero))) q l k u = other (3 * s + q) (omega arith) (omega arith) (omega arith)
+          stays (suc (suc (suc (suc n)))) q l k u = absurd (omega arith)
+
+          here : (n : ℕ) → n ≤ 3 → at after (n * s + i) ≡ line 3 number n
+          here zero l =
+              let e : 0 * s + i ≡ i = omega arith in
+              ap (at after) e
+              ∙ getD-set-other middle (s + s + i) i z 0 (omega arith)
+              ∙ getD-set-other low (s + i) i y 0 (omega arith)
+              ∙ getD-set-same t i x 0 (omega (arith, r .same))
+              ∙ e₀
+          here (suc zero) l =
+              let e : 1 * s + i ≡ s + i = omega arith in
+              ap (at after) e
+              ∙ getD-set-other middle (s + s + i) (s + i) z 0 (omega arith)
+              ∙ getD-set-same low (s + i) y 0 (simp length-set (omega (arith, r .same)))
+              ∙ e₁
+          here (suc (suc zero)) l =
+              let e : 2 * s + i ≡ s + s + i = omega arith in
+              ap (at after) e ∙ getD-set-same middle (s + s + i) z 0 (simp length-set (omega (arith, r .same))) ∙ e₂
+          here (suc (suc (suc zero))) l = other (3 * s + i) (omega arith) (omega arith) (omega arith) ∙ r .kept 3 i l (omega arith) h ∙ sym e₃
+          here (suc (suc (suc (suc n)))) l = absurd (omega arith)
 
 -- one line of differences
 pub newton-rows-step : (s : ℕ) (t₀ : List ℕ) → 0 < s → length t₀ ≡ s * 4 → (t : List ℕ) (i : ℕ) → Rows (newton (2 ^ 64)) s t₀ t i → i < s

@@ -1,0 +1,2 @@
+-- The steps of a move.
+pub mod MoveSteps
