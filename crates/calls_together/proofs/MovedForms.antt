@@ -4,7 +4,6 @@ use mathlib.Core.Bool.{Bool, true, false, cond}
 use Prim.Native.Nat.{ℕ, _+_, _%_, _^_, _<_}
 use mathlib.Core.List.{List, [], _∷_, map}
 use native.Mathlib.Nat.{zero-mod}
-use lib.Pow.{pow-pos}
 use lib.IntN.{ℤ, pos}
 use lib.ListN.{length}
 use Rattle.meaning.specs.Tables.{at}
@@ -13,9 +12,8 @@ use Rattle.meaning.specs.Values.{Agrees, bound, boxTotal, boxReduced}
 use Rattle.meaning.specs.Recovery.{accepts}
 use Rattle.meaning.specs.Datum.{movedPointℤ, moved}
 use Rattle.meaning.specs.Polynomials.{Term}
-use Rattle.meaning.specs.Settings.{cube, widthFits, first}
+use Rattle.meaning.specs.Settings.{widthFits, first}
 use Rattle.meaning.specs.Calls.{left, inOutNumber, sumNumber, sumLeft, reduceNumber, reduceLeft, moveNumber, moveLeft, recoveryNumber}
-use Rattle.theory.specs.Congruence.{Cong}
 use Rattle.theory.specs.Every.{true-iff}
 use Rattle.theory.specs.DemandThree.{accepts-of-agrees}
 use Rattle.theory.specs.Moved.{moved-moved, moved-zero, moved-boxTotal}

@@ -9,10 +9,10 @@ use lib.ListN.{length}
 use Rattle.meaning.specs.Boxes.{cells}
 use Rattle.meaning.specs.Values.{bound, boxReduced}
 use Rattle.meaning.specs.Datum.{moved}
-use Rattle.meaning.specs.Settings.{tableLimit, widthFits, settingsNumber, limitedNumber, callNumber, first}
+use Rattle.meaning.specs.Settings.{tableLimit, widthFits, settingsNumber, callNumber, first}
 use Rattle.meaning.specs.Calls.{inOutNumber, moveNumber}
 use Rattle.theory.specs.Tables.{length-tabulate}
-use Rattle.theory.specs.AcceptedCalls.{Ready, ready}
+use Rattle.theory.specs.AcceptedCalls.{Ready}
 use Rattle.theory.specs.Moved.{shifted, boxReduced-shifted}
 use Rattle.settings.specs.Causes.{ready-passes, ready-high, settings-cells-le}
 use Rattle.box_rows.specs.Rows.{holds}

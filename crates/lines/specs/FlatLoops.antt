@@ -4,7 +4,7 @@
 use mathlib.Core.Path.{_≡_, refl, sym, _∙_, ap, fun-ext}
 use mathlib.Core.List.{List, [], _∷_}
 use Prim.Native.Nat.{ℕ, suc, _+_, _*_, _-_, _%_, _≤_, _<_, zero-le}
-use native.Mathlib.Nat.{lt-irrefl, zero-lt-suc, zero-add, add-zero, mul-pos, mul-comm, mul-one, mul-mod-left}
+use native.Mathlib.Nat.{lt-irrefl, zero-lt-suc, add-zero, mul-pos, mul-comm, mul-one, mul-mod-left}
 use native.Mathlib.Numerals.{add-one}
 use native.Mathlib.Omega.{arith}
 use lib.Arith.{digits-mod}
@@ -15,7 +15,7 @@ use Rattle.meaning.specs.Boxes.{cells, cell, digits, along}
 use Rattle.theory.specs.Tables.{Filled, filled-start, filled-done, length-tabulate, at-tabulate, eq-tabulate, tabulate-cong}
 use Rattle.theory.specs.Boxes.{cells-pos}
 use Rattle.theory.specs.AlongEach.{Line, alongEach, alongEach-same}
-use Rattle.lines.specs.FlatTables.{Local, boxed, strided, lined, blocked, strided-step, strided-nil, strided-one, boxed-eq-along, blocked-eq-lined, lined-cong, strided-cong}
+use Rattle.lines.specs.FlatTables.{Local, strided, lined, blocked, strided-step, strided-nil, strided-one, boxed-eq-along, blocked-eq-lined, lined-cong, strided-cong}
 use Rattle.theory.specs.Parts.{part, put, length-part, at-part, filled-part}
 
 -- the blocks before place `from` are transformed

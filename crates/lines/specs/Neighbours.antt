@@ -26,7 +26,12 @@ first-at line d f c x h =
 
 -- an entry that is right as it is
 filled-keep : (f : ℕ → ℕ) (t₀ t : List ℕ) (k : ℕ) → Filled f t₀ t k → at t k ≡ f k → Filled f t₀ t (k + 1)
-filled-keep f t₀ t k r e = record { same = r .same; below = λ i p. go i (eq-or-lt-of-le (le-of-suc-le-suc (rw (add-one k) at p))); above = λ i p. r .above i (omega arith) }
+filled-keep f t₀ t k r e =
+    record {
+      same = r .same;
+      below = λ i p. go i (eq-or-lt-of-le (le-of-suc-le-suc (rw (add-one k) at p)));
+      above = λ i p. r .above i (omega arith);
+    }
   where
     go : (i : ℕ) → (i ≡ k) ⊎ (i < k) → at t i ≡ f i
     go i (inl q) = rw q e
@@ -94,7 +99,8 @@ module _ (t₀ t : List ℕ) (i : ℕ) (r : Neighbours newtonLine 3 t₀ t i) wh
       → Neighbours newtonLine 3 t₀ (set (set (set t (i + 1) a) (i + 2) b) (i + 3) v) (i + 4)
   unfolding newton diffs diff
   fours-step a b v h e₁ e₂ e₃ =
-      neighbours-step newtonLine 3 t₀ t i r _ (rw four at (filled-step _ t₀ _ (i + 3) v third (simp length-set h) (e₃ ∙ number newtonLine 3 t₀ t i r 3 (omega arith))))
+      neighbours-step newtonLine 3 t₀ t i r _
+      (rw four at (filled-step _ t₀ _ (i + 3) v third (simp length-set h) (e₃ ∙ number newtonLine 3 t₀ t i r 3 (omega arith))))
     where
       two : i + 1 + 1 ≡ i + 2
       two = omega arith
@@ -106,7 +112,9 @@ module _ (t₀ t : List ℕ) (i : ℕ) (r : Neighbours newtonLine 3 t₀ t i) wh
       four = omega arith
 
       second : Filled (blocked newtonLine 1 3 (at t₀)) t₀ (set t (i + 1) a) (i + 2)
-      second = rw two at (filled-step _ t₀ t (i + 1) a (first-kept newtonLine 3 t₀ t i r refl) (omega arith) (e₁ ∙ number newtonLine 3 t₀ t i r 1 (omega arith)))
+      second =
+          rw two at
+          (filled-step _ t₀ t (i + 1) a (first-kept newtonLine 3 t₀ t i r refl) (omega arith) (e₁ ∙ number newtonLine 3 t₀ t i r 1 (omega arith)))
 
       third : Filled (blocked newtonLine 1 3 (at t₀)) t₀ (set (set t (i + 1) a) (i + 2) b) (i + 3)
       third = rw three at (filled-step _ t₀ _ (i + 2) b second (simp length-set (omega arith)) (e₂ ∙ number newtonLine 3 t₀ t i r 2 (omega arith)))
@@ -172,7 +180,9 @@ module _ (line : Line) (t₀ t : List ℕ) (i : ℕ) (r : Neighbours line 3 t₀
       second = rw two at (filled-step _ t₀ (set t i x) (i + 1) y first (simp length-set (omega arith)) (e₁ ∙ number line 3 t₀ t i r 1 (omega arith)))
 
       third : Filled (blocked line 1 3 (at t₀)) t₀ after (i + 3)
-      third = rw three at (filled-step _ t₀ (set (set t i x) (i + 1) y) (i + 2) z second (simp length-set (omega arith)) (e₂ ∙ number line 3 t₀ t i r 2 (omega arith)))
+      third =
+          rw three at
+          (filled-step _ t₀ (set (set t i x) (i + 1) y) (i + 2) z second (simp length-set (omega arith)) (e₂ ∙ number line 3 t₀ t i r 2 (omega arith)))
 
       last : at after (i + 3) ≡ blocked line 1 3 (at t₀) (i + 3)
       last =

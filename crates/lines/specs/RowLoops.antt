@@ -10,12 +10,11 @@ use lib.ListN.{length, set, length-set}
 use lib.Seq.{getD-set-same, getD-set-other}
 use Rattle.meaning.specs.Tables.{tabulate, at}
 use Rattle.meaning.specs.Differences.{minus, diff, diffs, newton}
-use Rattle.meaning.specs.Stirling.{fallingLine, powerLine}
 use Rattle.theory.specs.Tables.{eq-tabulate}
 use Rattle.lines.specs.FlatTables.{lined}
 use Rattle.theory.specs.AlongEach.{Line}
 use Rattle.lines.specs.InPlace.{lined-at, index-lt}
-use Rattle.lines.specs.FourTerms.{Four, falling-four, powers-four}
+use Rattle.lines.specs.FourTerms.{Four}
 
 -- the lines with offsets below i are done
 pub record Rows (line : Line) (s : ℕ) (t₀ t : List ℕ) (i : ℕ) : Type 0 where

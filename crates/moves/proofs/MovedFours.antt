@@ -1,11 +1,11 @@
 -- A line of degree 3 moved by an offset, term by term: pass 2 alters the third coefficient, pass 1 the second and the third, pass 0 the three lower ones, each
 -- by the number above it as it was before the pass. Numbers are compared modulo m, so that it does not matter how a factor is written.
-use mathlib.Core.Path.{_≡_, refl, sym, ap, _∙_}
+use mathlib.Core.Path.{_≡_, sym, ap, _∙_}
 use Prim.Native.Nat.{ℕ, suc, _+_, _-_, _*_, _%_, _≤_, _<_}
 use native.Mathlib.Nat.{mod-mod}
 use native.Mathlib.Omega.{arith}
 use Rattle.meaning.specs.Differences.{minus}
-use Rattle.theory.specs.Congruence.{Cong, cong-of-eq, cong-refl, cong-sym, cong-trans, cong-add, cong-add-right, cong-mul, mod-cong, minus-add, cong-minus-of-add}
+use Rattle.theory.specs.Congruence.{Cong, cong-of-eq, cong-refl, cong-trans, cong-add, cong-add-right, cong-mul, mod-cong, minus-add, cong-minus-of-add}
 use Rattle.theory.specs.MovedLines.{shift, movedLine, nodeLine-moved}
 use Rattle.lines.specs.NodeOrders.{from, from-step, from-keep, from-top, expanded-eq-rewritten}
 use Rattle.moves.proofs.MovePasses.{sum-with-product}

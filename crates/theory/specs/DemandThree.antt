@@ -1,6 +1,7 @@
 -- Recovery at width w, in the words of its definition: the answer is a normal form; it agrees where it is accepted; it is accepted where some box
 -- agrees; the answer is the only normal form that agrees, and every other one disagrees at a grid point; two boxes that agree have the same values
--- everywhere; the value of a sum is the sum of the values; a reduced box is a normal form with the box's values. Each is recovery of tables modulo m with the cells of the width.
+-- everywhere; the value of a sum is the sum of the values; a reduced box is a normal form with the box's values. Each is recovery of tables modulo m with the
+-- cells of the width.
 use mathlib.Core.Path.{_≡_, sym, _∙_}
 use mathlib.Core.Logic.{_↔_}
 use Prim.Native.Nat.{ℕ, _+_, _%_, _^_, _<_}

@@ -12,7 +12,7 @@ use Rattle.meaning.specs.Sums.{sum}
 use Rattle.meaning.specs.Factorials.{falling}
 use Rattle.meaning.specs.Differences.{minus}
 use Rattle.theory.specs.Congruence.{Cong, cong-of-eq, cong-refl, cong-sym, cong-trans, cong-add-left, cong-add-right, cong-mul-left, cong-mul-right}
-use Rattle.theory.specs.Congruence.{cong-add, cong-mul, cong-add-cancel, minus-add}
+use Rattle.theory.specs.Congruence.{cong-add-cancel, minus-add}
 use Rattle.theory.specs.Binomials.{mul-falling}
 use Rattle.theory.specs.AlongEach.{Line}
 
@@ -85,22 +85,6 @@ rewritten-next (suc d) δ c (suc j) h =
     rewritten-next d (λ l. δ (suc l)) (passed (suc d) (λ i. δ 0 (suc i)) (λ i. c (suc i))) j (le-of-suc-le-suc h)
 
 module _ {m : ℕ} where
-  -- a pass depends on the differences and the line modulo m only
-  pub passed-cong : (d : ℕ) {δ ε b c : ℕ → ℕ} → ((i : ℕ) → Cong m (δ i) (ε i)) → ((i : ℕ) → Cong m (b i) (c i)) → (j : ℕ)
-      → Cong m (passed d δ b j) (passed d ε c j)
-  unfolding passed
-  passed-cong zero h l j = l j
-  passed-cong (suc d) h l zero = cong-add (l 0) (cong-mul (h 0) (passed-cong d (λ i. h (suc i)) (λ i. l (suc i)) 0))
-  passed-cong (suc d) h l (suc j) = passed-cong d (λ i. h (suc i)) (λ i. l (suc i)) j
-
-  -- and so do all passes
-  pub rewritten-cong : (d : ℕ) {δ ε : ℕ → ℕ → ℕ} {b c : ℕ → ℕ} → ((k i : ℕ) → Cong m (δ k i) (ε k i)) → ((i : ℕ) → Cong m (b i) (c i)) → (j : ℕ)
-      → Cong m (rewritten d δ b j) (rewritten d ε c j)
-  unfolding rewritten
-  rewritten-cong zero h l j = l j
-  rewritten-cong (suc d) h l zero = passed-cong (suc d) (h 0) l 0
-  rewritten-cong (suc d) h l (suc j) = rewritten-cong d (λ k. h (suc k)) (λ i. passed-cong (suc d) (h 0) l (suc i)) j
-
   -- two neighbouring factors change places
   nested-exchange : (d e v : ℕ) (u b : ℕ → ℕ) → Cong m (e + v) (u 0)
       → Cong m (e * b 0 + v * nested d u b) (u 0 * nested d (before v (λ i. u (suc i))) b)
