@@ -8,6 +8,8 @@ pub type Shape = (usize, u8);
 pub const SMALL: [Shape; 5] = [(1, 3), (1, 9), (2, 3), (3, 3), (2, 15)];
 pub const CELLS_4096: [Shape; 4] = [(2, 63), (3, 15), (4, 7), (6, 3)];
 pub const CELLS_65536: [Shape; 4] = [(2, 255), (4, 15), (8, 3), (16, 1)];
+/// Degrees between those of the others.
+pub const BETWEEN: [Shape; 4] = [(3, 5), (5, 5), (5, 8), (6, 4)];
 
 const GROWTH: [(&str, &[Shape]); 3] = [
     ("variables at degree 3", &[(2, 3), (3, 3), (4, 3), (5, 3), (6, 3), (7, 3), (8, 3)]),

@@ -79,8 +79,8 @@ const TARGETS: &[Target] = &[
     target("move_datum", "4 cells", |r| cells(r, 4), OfC(2.0)),
     target("move_datum", "16 cells", |r| cells(r, 16), OfC(1.5)),
     target("move_datum", "from 256 cells on", large, OfC(1.0)),
-    // at degree 3 the conversion's factors are 1 and 2, which take no products
-    target("move_datum", "degree 7 and more", |r| degree(r) >= 7, OfAConversion(1.3)),
+    // up to degree 3 the conversion's factors are 1 and 2, which take no products
+    target("move_datum", "degree 4 and more", |r| degree(r) >= 4, OfAConversion(1.3)),
     target("stirling_second_kind", "every degree", |_| true, OfCAheadOfRust(1.3)),
     target("stirling_first_kind", "every degree", |_| true, OfCAheadOfRust(1.3)),
     target("solve_2adic", "4 x 4, 16 x 4", |r| r.input.size == 16 || r.input.size == 64, OfCAheadOfRust(1.6)),

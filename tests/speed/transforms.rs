@@ -11,7 +11,7 @@ use crate::random::Random;
 use crate::reference::{box_of_map, map_of_box, reduced};
 use crate::session::{check, run, Input, Programs, Session};
 use crate::settings::Settings;
-use crate::shapes::{self, Shape, CELLS_4096, CELLS_65536, SMALL, WIDE};
+use crate::shapes::{self, Shape, BETWEEN, CELLS_4096, CELLS_65536, SMALL, WIDE};
 use crate::tables::{as_bytes, as_words};
 use std::hint::black_box;
 
@@ -80,7 +80,7 @@ pub fn time(session: &mut Session) {
         }
         shapes::grow(session, call.name(), "k cells d / 2", 3);
     }
-    for (shape, listed) in shapes::all(&[&converted[..], &CELLS_65536[3..]].concat(), 3) {
+    for (shape, listed) in shapes::all(&[&converted[..], &CELLS_65536[3..], &BETWEEN].concat(), 3) {
         moved(session, shape, listed);
     }
     shapes::grow(session, MOVED, "k cells d / 2", 3);

@@ -17,7 +17,7 @@ use Rattle.theory.specs.AlongEach.{Line}
 use Rattle.lines.specs.FourTerms.{Four}
 
 -- number x of line c
-first-at : (line : Line) (d : ℕ) (f : ℕ → ℕ) (c x : ℕ) → x ≤ d → blocked line 1 d f (c * suc d + x) ≡ line d (λ y. f (c * suc d + y)) x
+pub first-at : (line : Line) (d : ℕ) (f : ℕ → ℕ) (c x : ℕ) → x ≤ d → blocked line 1 d f (c * suc d + x) ≡ line d (λ y. f (c * suc d + y)) x
 unfolding lined
 first-at line d f c x h =
     ap (λ (n : ℕ). blocked line 1 d f (c * n + x)) (sym (one-mul (suc d)))

@@ -19,7 +19,7 @@ use Rattle.theory.specs.Congruence.{cong-minus-of-add, mod-cong, minus-add}
 use Rattle.theory.specs.MovedLines.{shift}
 use Rattle.lines.specs.FlatTables.{lined}
 use Rattle.lines.specs.InPlace.{Parted, lined-at}
-use Rattle.lines.specs.NodeOrders.{from, from-step, fromLine, Opening}
+use Rattle.lines.specs.NodeOrders.{from, from-step, fromLine, Opened, Opening, open-start, open-done}
 
 -- ---- one row
 
@@ -146,10 +146,6 @@ module _ {m a s d k : ℕ} (positive : 0 < m) where
     pub rows-low : from < s * d → k + r .row < d
     rows-low h = lt-of-mul-lt-mul-left s (rw (mul-comm s (k + r .row), ← r .place) h)
 
-    -- and has a row above it
-    pub rows-fits : {n : ℕ} → n ≡ s * suc d → from < s * d → from + s + s ≤ n
-    rows-fits whole h = omega (arith, r .place, mul-le-mul-right s (rows-low h))
-
     -- its factor is the difference of the nodes
     pub rows-factor : Cong m factor (shift m a (r .row) k)
     rows-factor = cong-minus-of-add k positive (r .factors)
@@ -172,3 +168,12 @@ module _ {m a s d k : ℕ} (positive : 0 < m) where
     pub rows-open : {f : ℕ → ℕ} {n : ℕ} {t t′ : List ℕ} → 0 < s → n ≡ s * suc d → from < s * d
         → Opening m (shift m a) s d f n k from t → Added m s from factor 0 t t′ (from + s) → Opening m (shift m a) s d f n k (from + s) t′
     rows-open pos whole h = open-row (r .row) factor pos whole (rows-low h) (r .place) rows-factor
+
+-- the first pass, which has one row, row d - 1
+pub top-opened : {m s d k from factor : ℕ} (a : ℕ) {f : ℕ → ℕ} {n : ℕ} {t t′ : List ℕ} → 0 < m → 0 < s → n ≡ s * suc d → suc k ≡ d → from ≡ s * k
+    → factor ≡ minus m a k → Opened m (shift m a) s d f n (suc k) t → Added m s from factor 0 t t′ (from + s) → Opened m (shift m a) s d f n k t′
+top-opened {s} {d} a positive pos whole top place e r added =
+    let size = ap (s *_) top in
+    let row = rows-start {a = a} {d = d} positive place e (omega arith) in
+    open-done pos whole (omega (arith, size))
+    (rows-open positive row pos whole (omega (arith, size)) (rw place (open-start pos whole r)) added)

@@ -9,6 +9,7 @@ ghost use Rattle.meaning.specs.Tables.{at};
 ghost use Rattle.meaning.specs.Boxes.{cells};
 ghost use Rattle.theory.specs.Moved.{shifted};
 
+mod first;
 mod fours;
 mod passes;
 

@@ -10,6 +10,7 @@ ghost use Rattle.theory.specs.MovedLines.{shift, movedLine};
 ghost use Rattle.lines.specs.FlatTables.{lined, blocked};
 ghost use Rattle.lines.specs.NodeOrders.{Opened};
 ghost use Rattle.moves.specs.NodeRows.{Added};
+use crate::first;
 use crate::fours;
 
 // Each of the `stride` numbers from place `from` on gets `factor` times the number one stride above it added.
@@ -52,54 +53,6 @@ fn add_rows(part: &mut [u64], stride: usize, from: usize, near: u64, far: u64)
     }
 }
 
-// The number at place i gets `near` times the next number and `far` times the one after that added.
-fn add_number(part: &mut [u64], i: usize, near: u64, far: u64)
-    requires { ⌜ i + 2 < length (now part) ⌝ }
-    ensures { λ r. ⌜ Added (2 ^ 64) 1 i near far (now (part .entry)) (now (part .exit)) (i + 1) ⌝ }
-{
-    part[i] = std::num::wrapping_add_u64(
-        part[i],
-        std::num::wrapping_add_u64(
-            arith::wrapping_mul(near, part[i + 1]),
-            arith::wrapping_mul(far, part[i + 2]),
-        ),
-    );
-}
-
-// Pass `done` over a block, row by row.
-fn move_rows(part: &mut [u64], stride: usize, degree: usize, done: usize, offset: u64)
-    requires { ⌜ (0 < stride) × (done < degree) × (length (now part) ≡ stride * suc degree) ⌝ }
-    ensures { λ r. ⌜ ((f : ℕ → ℕ)
-        → Opened (2 ^ 64) (shift (2 ^ 64) offset) stride degree f (length (now (part .entry))) (suc done) (now (part .entry))
-        → Opened (2 ^ 64) (shift (2 ^ 64) offset) stride degree f (length (now (part .entry))) done (now (part .exit))) ⌝ }
-{
-    let end = part.len() - stride;
-    let mut factor = arith::wrapping_sub(offset, done as u64);
-    let mut from = stride * done;
-    while from < end {
-        add_row(part, stride, from, factor);
-        from += stride;
-        factor = std::num::wrapping_add_u64(factor, 1);
-    }
-}
-
-// Pass `done` over a single line: the factor goes up from number to number.
-fn move_line(part: &mut [u64], degree: usize, done: usize, offset: u64)
-    requires { ⌜ (done < degree) × (length (now part) ≡ suc degree) ⌝ }
-    ensures { λ r. ⌜ ((f : ℕ → ℕ)
-        → Opened (2 ^ 64) (shift (2 ^ 64) offset) 1 degree f (length (now (part .entry))) (suc done) (now (part .entry))
-        → Opened (2 ^ 64) (shift (2 ^ 64) offset) 1 degree f (length (now (part .entry))) done (now (part .exit))) ⌝ }
-{
-    let end = part.len() - 1;
-    let mut factor = arith::wrapping_sub(offset, done as u64);
-    let mut i = done;
-    while i < end {
-        part[i] = std::num::wrapping_add_u64(part[i], arith::wrapping_mul(factor, part[i + 1]));
-        i += 1;
-        factor = std::num::wrapping_add_u64(factor, 1);
-    }
-}
-
 // The passes `done` + 1 and `done` over a block at once, row by row. The last row has no row two above it.
 fn move_row_pair(part: &mut [u64], stride: usize, degree: usize, done: usize, offset: u64)
     requires { ⌜ (0 < stride) × (suc done < degree) × (length (now part) ≡ stride * suc degree) ⌝ }
@@ -129,47 +82,6 @@ fn move_row_pair(part: &mut [u64], stride: usize, degree: usize, done: usize, of
     add_row(part, stride, from, near);
 }
 
-// The passes `done` + 1 and `done` over a single line at once.
-fn move_line_pair(part: &mut [u64], degree: usize, done: usize, offset: u64)
-    requires { ⌜ (suc done < degree) × (length (now part) ≡ suc degree) ⌝ }
-    ensures { λ r. ⌜ ((f : ℕ → ℕ)
-        → Opened (2 ^ 64) (shift (2 ^ 64) offset) 1 degree f (length (now (part .entry))) (suc (suc done)) (now (part .entry))
-        → Opened (2 ^ 64) (shift (2 ^ 64) offset) 1 degree f (length (now (part .entry))) done (now (part .exit))) ⌝ }
-{
-    let end = part.len() - 2;
-    let first = arith::wrapping_sub(offset, done as u64);
-    add_number(
-        part,
-        done,
-        first,
-        arith::wrapping_mul(first, arith::wrapping_sub(first, 1)),
-    );
-    let mut near = std::num::wrapping_add_u64(first, first);
-    let mut far = arith::wrapping_mul(first, std::num::wrapping_add_u64(first, 1));
-    let mut i = done + 1;
-    while i < end {
-        add_number(part, i, near, far);
-        i += 1;
-        near = std::num::wrapping_add_u64(near, 2);
-        far = std::num::wrapping_add_u64(far, near);
-    }
-    part[i] = std::num::wrapping_add_u64(part[i], arith::wrapping_mul(near, part[i + 1]));
-}
-
-// The passes `done` + 1 and `done` over a block at once, by what is fastest.
-fn move_pair(part: &mut [u64], stride: usize, degree: usize, done: usize, offset: u64)
-    requires { ⌜ (0 < stride) × (suc done < degree) × (length (now part) ≡ stride * suc degree) ⌝ }
-    ensures { λ r. ⌜ ((f : ℕ → ℕ)
-        → Opened (2 ^ 64) (shift (2 ^ 64) offset) stride degree f (length (now (part .entry))) (suc (suc done)) (now (part .entry))
-        → Opened (2 ^ 64) (shift (2 ^ 64) offset) stride degree f (length (now (part .entry))) done (now (part .exit))) ⌝ }
-{
-    if stride == 1 {
-        move_line_pair(part, degree, done, offset);
-    } else {
-        move_row_pair(part, stride, degree, done, offset);
-    }
-}
-
 // The passes below `top`, which is even, over a block, two at once.
 fn move_pairs(part: &mut [u64], stride: usize, degree: usize, top: usize, offset: u64)
     requires { ⌜ (0 < stride) × (top ≤ degree) × (top % 2 ≡ 0) × (length (now part) ≡ stride * suc degree) ⌝ }
@@ -180,45 +92,27 @@ fn move_pairs(part: &mut [u64], stride: usize, degree: usize, top: usize, offset
     let mut done = top;
     while 0 < done {
         done -= 2;
-        move_pair(part, stride, degree, done, offset);
+        move_row_pair(part, stride, degree, done, offset);
     }
 }
 
-// All passes over a block; where their number is odd, the shortest, which comes first, is made alone.
+// All passes over a block; where their number is odd, the shortest, which comes first and has one row, is made alone.
 fn move_passes(part: &mut [u64], stride: usize, degree: usize, offset: u64)
     requires { ⌜ (0 < stride) × (length (now part) ≡ stride * suc degree) ⌝ }
     ensures { λ r. ⌜ now (part .exit) ≡ tabulate (length (now (part .entry))) (lined (movedLine (2 ^ 64) offset) stride degree (at (now (part .entry)))) ⌝ }
 {
     if degree % 2 == 1 {
-        move_rows(part, stride, degree, degree - 1, offset);
-        move_pairs(part, stride, degree, degree - 1, offset);
+        let top = degree - 1;
+        add_row(
+            part,
+            stride,
+            stride * top,
+            arith::wrapping_sub(offset, top as u64),
+        );
+        move_pairs(part, stride, degree, top, offset);
         return;
     }
     move_pairs(part, stride, degree, degree, offset);
-}
-
-// The same of a long line, one pass after the other: two at once wait for their factors.
-fn move_long(part: &mut [u64], degree: usize, offset: u64)
-    requires { ⌜ length (now part) ≡ suc degree ⌝ }
-    ensures { λ r. ⌜ now (part .exit) ≡ tabulate (length (now (part .entry))) (lined (movedLine (2 ^ 64) offset) 1 degree (at (now (part .entry)))) ⌝ }
-{
-    let mut done = degree;
-    while 0 < done {
-        done -= 1;
-        move_line(part, degree, done, offset);
-    }
-}
-
-// A single line, by what is fastest.
-fn move_single(part: &mut [u64], degree: usize, offset: u64)
-    requires { ⌜ length (now part) ≡ suc degree ⌝ }
-    ensures { λ r. ⌜ now (part .exit) ≡ tabulate (length (now (part .entry))) (lined (movedLine (2 ^ 64) offset) 1 degree (at (now (part .entry)))) ⌝ }
-{
-    if 23 < degree {
-        move_long(part, degree, offset);
-        return;
-    }
-    move_passes(part, 1, degree, offset);
 }
 
 // All passes over a block, by what is fastest, in a function that the compiler does not move into its caller: it calls itself where the stride is 0, which it
@@ -240,10 +134,6 @@ pub(crate) fn move_block(part: &mut [u64], stride: usize, degree: usize, offset:
         fours::moved_rows(part, stride, offset);
         return;
     }
-    if stride == 1 {
-        move_single(part, degree, offset);
-        return;
-    }
     move_passes(part, stride, degree, offset);
 }
 
@@ -257,8 +147,8 @@ pub(crate) fn move_variable(table: &mut [u64], stride: usize, degree: u8, offset
     if offset == 0 {
         return size;
     }
-    if stride == 1 && degree == 3 {
-        fours::moved_neighbours(table, offset);
+    if stride == 1 {
+        first::move_first(table, degree as usize, offset);
         return size;
     }
     let mut from = 0;

@@ -1,30 +1,35 @@
--- The first two returns are never taken: no table is that long. The loop: the lines with offsets below i are done; the measure is what is left.
+-- The loop: the lines with offsets below i are done; the measure is what is left. One line may be left behind it.
 use borrow.Author.Needs.{needs}
-use mathlib.Core.Path.{_≡_, refl, sym, _∙_}
-use Prim.Native.Nat.{ℕ, _+_, _-_, _*_, _^_, _<_}
-use native.Mathlib.Nat.{mod-eq-of-lt}
+use mathlib.Core.Path.{_≡_, _∙_}
+use Prim.Native.Nat.{_+_, _-_, _^_, _≤_}
 use native.Mathlib.Omega.{arith}
-use lib.ListN.{length, length-set}
-use lib.Pow.{pow-pos}
-use Rattle.meaning.specs.Tables.{at}
 use Rattle.theory.specs.MovedLines.{movedLine}
-use Rattle.moves.proofs.MovedFours.{moved-last}
-use Rattle.lines.specs.RowLoops.{Rows, rows-start, rows-step-low, rows-done, first-number, second-number, third-number, last-number}
+use Rattle.lines.specs.RowLoops.{Rows, rows-start, rows-done}
 use Rattle.moves.proofs.fours.moved_rows.Statement.{statement}
 use Rattle.moves.proofs.fours.moved_rows.Tie as tie
 
 abbrev Inv-loop : tie.InvT-loop
-Inv-loop part₀ stride offset twice thrice i₀ part i = (length part ≡ length part₀) × Rows (movedLine (2 ^ 64) offset) stride part₀ part i
+Inv-loop part₀ stride offset i₀ part i = (i ≤ stride) × Rows (movedLine (2 ^ 64) offset) stride part₀ part i
 
 abbrev μ-loop : tie.MeasureT-loop
-μ-loop part₀ stride offset twice thrice i₀ part i = stride - i
+μ-loop part₀ stride offset i₀ part i = stride - i
 
--- the function's start, from the loop's head; the numbers that are lent fit into words
-abbrev start : tie.At-loop Inv-loop μ-loop → tie.After-slice-known Inv-loop μ-loop
-start l = l .before .before .before
+-- the function's start, from the loop's head
+abbrev start : tie.At-loop Inv-loop μ-loop → tie.Start Inv-loop μ-loop
+start l = l .before .before
 
-small : (k : tie.After-slice-known Inv-loop μ-loop) (i : ℕ) → at (k .before .args .part .now) i < 2 ^ 64
-small k i = omega (arith, k .slice-known .given i)
+-- the line with offset i done, and the one after it; the last line, where their number is odd
+first : (c : tie.After-move-four Inv-loop μ-loop) → let l = c .before .before .before in
+    Rows (movedLine (2 ^ 64) (start l .args .offset)) (start l .args .stride) (start l .args .part .now) (c .move-four .last .0) (l .loop .i + 1)
+first c = c .move-four .ensures _ (c .before .before .before .loop .inv .1)
+
+second : (c : tie.After-move-four2 Inv-loop μ-loop) → let l = c .before .before .before .before .before .before .before in
+    Rows (movedLine (2 ^ 64) (start l .args .offset)) (start l .args .stride) (start l .args .part .now) (c .move-four2 .last .0) (l .loop .i + 1 + 1)
+second c = c .move-four2 .ensures _ (first (c .before .before .before .before))
+
+last : (c : tie.After-move-four3 Inv-loop μ-loop) → let l = c .before .before .before .before in
+    Rows (movedLine (2 ^ 64) (start l .args .offset)) (start l .args .stride) (start l .args .part .now) (c .move-four3 .last .0) (l .loop .i + 1)
+last c = c .move-four3 .ensures _ (c .before .before .before .before .loop .inv .1)
 
 pub moved-rows-spec : {M : Type 1} → statement M
 moved-rows-spec =
@@ -32,44 +37,30 @@ moved-rows-spec =
     (tie.spec
     Inv-loop
     μ-loop
+    (λ c. (omega arith, rows-start _ _ _))
     (λ c. search needs)
-    (λ c. absurd (omega arith))
+    (λ c κs. let l = c .before .before in (omega (arith, c .before .loop-test .taken), l .loop .inv .1 .same ∙ start l .pre .1))
     (λ c. search needs)
-    (λ c. absurd (omega arith))
-    (λ c. (refl, rows-start _ _ _))
-    (λ c. search needs) (λ c. search needs)
-    (λ c. search needs) (λ c. search needs) (λ c. search needs)
-    (λ c. search needs) (λ c. search needs) (λ c. search needs)
-    (λ c. search needs) (λ c. search needs) (λ c. search needs)
-    (λ c κs. search needs)
-    (λ c. search needs) (λ c. search needs)
-    (λ c. search needs) (λ c. search needs) (λ c. simp length-set (omega arith))
-    (λ c. search needs) (λ c. search needs) (λ c. simp length-set (omega arith))
+    (λ c κs.
+    let made = c .before .before .before in
+    let l = made .before .before .before in
+    (omega (arith, made .before .before .loop-test .taken), first made .same ∙ start l .pre .1))
     (λ c. search needs)
     (λ c. search needs)
     (λ c.
-    let turn = c .before .before .before .before .before in
-    let l = turn .before in
-    let k = start l in
-    let s = k .before in
-    let t₀ = s .args .part .now in
-    let t = l .loop .part in
-    let n = s .args .stride in
-    let i = l .loop .i in
-    let r = l .loop .inv .1 in
-    let h = turn .loop-test .taken in
-    let three =
-    c .moved-four .ensures (λ x. at t₀ (x * n + i))
-    (sym (first-number _ n t₀ (s .pre .0) (s .pre .1) t i r h))
-    (sym (second-number _ n t₀ (s .pre .0) (s .pre .1) t i r h))
-    (sym (third-number _ n t₀ (s .pre .0) (s .pre .1) t i r h))
-    (sym (last-number _ n t₀ (s .pre .0) (s .pre .1) t i r h)) in (
-      simp length-set (l .loop .inv .0),
-      rows-step-low _ n t₀ (s .pre .0) (s .pre .1) t i r h _ _ _ (three .0) (three .1) (three .2)
-          (moved-last (pow-pos 64) (s .args .offset) (λ x. at t₀ (x * n + i)) ∙ mod-eq-of-lt (small k (3 * n + i))),
-    ))
-    (λ c. c .before .loop .inv .0)
+    let made = c .before .before in
+    let l = made .before .before .before .before .before .before .before in
+    let two : l .loop .i + 1 + 1 ≡ l .loop .i + 2 = omega arith in
+    (omega arith, rw two at (second made)))
+    (λ c κs. let l = c .before .before .before in (c .before .if1 .taken, l .loop .inv .1 .same ∙ start l .pre .1))
+    (λ c. last (c .before .before) .same)
     (λ c.
-    let l = c .before in
-    let s = start l .before in
-    rows-done _ (s .args .stride) _ (s .pre .0) (s .pre .1) (l .loop .part) (l .loop .i) (l .loop .inv .1) (c .loop-test .left)))
+    let made = c .before .before in
+    let l = made .before .before .before .before in
+    let s = start l in
+    rows-done _ (s .args .stride) _ (s .pre .0) (s .pre .1) _ (l .loop .i + 1) (last made) (omega (arith, made .before .before .before .loop-test .left)))
+    (λ c. c .before .before .loop .inv .1 .same)
+    (λ c.
+    let l = c .before .before in
+    let s = start l in
+    rows-done _ (s .args .stride) _ (s .pre .0) (s .pre .1) (l .loop .part) (l .loop .i) (l .loop .inv .1) (c .if1 .left)))

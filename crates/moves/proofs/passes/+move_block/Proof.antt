@@ -1,9 +1,7 @@
--- The call of itself is never made, since a stride is not 0, and the return after it is never taken, since no table is that long. The three ways that are
--- left have this contract: with degree 3, with stride 1, and as it is.
+-- The call of itself is never made, since a stride is not 0, and the return after it is never taken, since no table is that long. The two ways that are
+-- left have this contract: with degree 3, and as it is.
 use borrow.Author.Needs.{needs}
-use mathlib.Core.Path.{_∙_}
 use Prim.Native.Nat.{ℕ, _<_}
-use native.Mathlib.Nat.{one-mul}
 use native.Mathlib.Omega.{arith}
 use borrow.Fn.Kinds.{In}
 use borrow.Fn.PlainCycle.{Measures, is, falls, and}
@@ -11,7 +9,6 @@ use Rattle.moves.proofs.passes.move_block.Reads as move-block
 use Rattle.moves.proofs.passes.move_block.Kinds as move-block-kinds
 use Rattle.moves.proofs.passes.+move_block.Lts-move_block as move-block-lts
 use Rattle.moves.proofs.fours.moved_rows.Reads as moved-rows-reads
-use Rattle.moves.proofs.passes.move_single.Reads as move-single-reads
 use Rattle.moves.proofs.passes.move_passes.Reads as move-passes-reads
 use Rattle.moves.proofs.passes.+move_block.{statement}
 use Rattle.moves.proofs.passes.+move_block.Tie.{close}
@@ -31,8 +28,6 @@ pub +move-block-spec : {M : Type 1} → statement M
   move-block.Post,
   moved-rows-reads.Asked,
   moved-rows-reads.Learnt,
-  move-single-reads.Asked,
-  move-single-reads.Learnt,
   move-passes-reads.Asked,
   move-passes-reads.Learnt,
 )
@@ -46,7 +41,4 @@ pub +move-block-spec : {M : Type 1} → statement M
     (λ c κs. let p = c .before .before .before .before .before .pre .1 in (p .0, rw (c .before .if3 .taken) at (p .1)))
     (λ c. search needs)
     (λ c. let x = c .before .before in rw (x .before .before .if3 .taken) (x .moved-rows .ensures))
-    (λ c κs. let p = c .before .before .before .before .before .before .pre .1 in (rw (c .before .if4 .taken) at (p .1)) ∙ one-mul _)
-    (λ c. search needs)
-    (λ c. let x = c .before .before in rw (x .before .before .if4 .taken) (x .move-single .ensures))
     (λ c κs. search needs) (λ c. search needs) (λ c. search needs)

@@ -41,7 +41,7 @@ move-pairs-spec =
       omega arith,
       omega (arith, l .loop .inv .1),
       search needs,
-      λ f r. after-opening (rw e at (l .loop .inv .3 f r)) (pair .move-pair .ensures),
+      λ f r. after-opening (rw e at (l .loop .inv .3 f r)) (pair .move-row-pair .ensures),
     ))
     (λ c. c .before .loop .inv .2)
     (λ c.

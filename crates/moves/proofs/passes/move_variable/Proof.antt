@@ -1,10 +1,10 @@
--- A variable without an offset is left, and a first variable of degree 3 goes by its fours of neighbours. The loop: the blocks before `from` are moved, the
+-- A variable without an offset is left, and a first variable has a way of its own. The loop: the blocks before `from` are moved, the
 -- others as they were. The block size divides the length, so that nothing is left where no further block fits.
 use borrow.Author.Needs.{needs}
-use borrow.Author.Tests.{eqb-true}
-use mathlib.Core.Path.{_≡_, sym, ap₂, _∙_}
+use mathlib.Core.Path.{_≡_, ap, _∙_}
+use native.Mathlib.Nat.{one-mul}
 use native.Mathlib.Omega.{arith}
-use Prim.Native.Nat.{ℕ, suc, _+_, _-_, _*_, _%_, _^_}
+use Prim.Native.Nat.{suc, _+_, _-_, _*_, _^_}
 use lib.ListN.{length}
 use denote.Ref.{now}
 use Rattle.theory.specs.Parts.{length-part}
@@ -21,15 +21,9 @@ Inv-loop table₀ stride degree offset size from₀ table from = Blocks (movedLi
 abbrev μ-loop : tie.MeasureT-loop
 μ-loop table₀ stride degree offset size from₀ table from = length table₀ - from
 
--- the function's start, from the loop's head, and from the tests for a short first variable
+-- the function's start, from the loop's head
 abbrev start : tie.At-loop Inv-loop μ-loop → tie.Start Inv-loop μ-loop
 start l = l .before .before .before .before
-
-abbrev short : tie.Then3 Inv-loop μ-loop → tie.Start Inv-loop μ-loop
-short c = c .before .before .before .before
-
-three : (c : tie.Then3 Inv-loop μ-loop) → short c .args .degree ≡ 3
-three c = eqb-true _ 3 (c .if3 .taken)
 
 local : (s : tie.Start Inv-loop μ-loop) → Local (movedLine (2 ^ 64) (s .args .offset))
 local s = movedLine-local (2 ^ 64) (s .args .offset)
@@ -49,16 +43,13 @@ move-variable-spec =
       still-left (a .stride) (a .degree) (a .offset) (a .table .now) (c .if1 .taken) (s .pre .0) (λ i. omega (arith, known .slice-known .given i)),
     ))
     (λ c κs.
-    let x = c .before in
-    let s = short x in
-    sym (ap₂ (λ (n d : ℕ). length (now (s .args .table)) % (n * suc d)) (x .before .if2 .taken) (three x)) ∙ s .pre .2)
+    let one = c .before .if2 .taken in
+    let s = c .before .before .before .before in
+    (omega arith, omega (arith, ap (_* suc (s .args .degree)) one, s .pre .1), rw (one, one-mul) at (s .pre .2)))
     (λ c. search needs)
     (λ c.
     let n = c .before .before in
-    let x = n .before .before in (
-      omega arith,
-      rw (x .before .if2 .taken, three x) (n .moved-neighbours .ensures),
-    ))
+    (omega arith, rw (n .before .before .if2 .taken) (n .move-first .ensures)))
     (λ c. blocks-start _ (local (c .before .before .before)) _ _ _)
     (λ c. search needs) (λ c. search needs) (λ c. search needs) (λ c. search needs) (λ c. search needs) (λ c. search needs)
     (λ c κs.

@@ -11,8 +11,8 @@ use Rattle.theory.specs.MovedLines.{shift}
 use Rattle.lines.specs.NodeOrders.{Opened, Opening, open-start, open-done}
 use Rattle.moves.specs.NodeRows.{Rows, rows-start, rows-step, rows-open, added-start, added-near}
 use Rattle.moves.proofs.MovePasses.{sum-with-product, opening-at}
-use Rattle.moves.proofs.passes.move_line.Statement.{statement}
-use Rattle.moves.proofs.passes.move_line.Tie as tie
+use Rattle.moves.proofs.first.move_line.Statement.{statement}
+use Rattle.moves.proofs.first.move_line.Tie as tie
 
 abbrev Inv-loop : tie.InvT-loop
 Inv-loop part₀ degree done offset end factor₀ i₀ part factor i =

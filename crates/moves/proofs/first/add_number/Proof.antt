@@ -4,8 +4,8 @@ use native.Mathlib.Omega.{arith}
 use native.Mathlib.Nat.{le-refl}
 use Rattle.moves.specs.NodeRows.{added-start, added-step}
 use Rattle.moves.proofs.MovePasses.{sum-with-products}
-use Rattle.moves.proofs.passes.add_number.Statement.{statement}
-use Rattle.moves.proofs.passes.add_number.Tie as tie
+use Rattle.moves.proofs.first.add_number.Statement.{statement}
+use Rattle.moves.proofs.first.add_number.Tie as tie
 
 pub add-number-spec : {M : Type 1} → statement M
 add-number-spec =

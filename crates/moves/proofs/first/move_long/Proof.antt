@@ -10,8 +10,8 @@ use Rattle.meaning.specs.Tables.{at}
 use Rattle.theory.specs.MovedLines.{shift, nodeLine-moved}
 use Rattle.lines.specs.NodeOrders.{Opened, opened-of-table}
 use Rattle.moves.proofs.MovePasses.{after-opening, opened-lined}
-use Rattle.moves.proofs.passes.move_long.Statement.{statement}
-use Rattle.moves.proofs.passes.move_long.Tie as tie
+use Rattle.moves.proofs.first.move_long.Statement.{statement}
+use Rattle.moves.proofs.first.move_long.Tie as tie
 
 abbrev Inv-loop : tie.InvT-loop
 Inv-loop part₀ degree offset done₀ part done =

@@ -11,8 +11,8 @@ use Rattle.theory.specs.MovedLines.{shift}
 use Rattle.moves.specs.NodeRows.{added-start, added-near}
 use Rattle.moves.specs.NodePairs.{Pairing, Pairs, pairs-first, pairs-start, pairs-step, pairs-next, pairs-last}
 use Rattle.moves.proofs.MovePasses.{sum-with-product}
-use Rattle.moves.proofs.passes.move_line_pair.Statement.{statement}
-use Rattle.moves.proofs.passes.move_line_pair.Tie as tie
+use Rattle.moves.proofs.first.move_line_pair.Statement.{statement}
+use Rattle.moves.proofs.first.move_line_pair.Tie as tie
 
 abbrev Inv-loop : tie.InvT-loop
 Inv-loop part₀ degree done offset end first near₀ far₀ i₀ part near far i =
@@ -77,9 +77,9 @@ move-line-pair-spec =
     let added =
     added-near (added-start _ 1 (l .loop .i) (l .loop .near) 0 (l .loop .part)) (le-refl _) (omega arith) _
     (sum-with-product _ (l .loop .near) _ _ (c .before .wrapping-mul3 .ensures) (c .wrapping-add-u645 .ensures)) in
-    rw (s .pre .1) (λ f r.
+    λ f r.
     pairs-last (pow-pos 64) (l .loop .inv .2) (zero-lt-suc 0) (unit _) (omega (arith, s .pre .1))
     (l .loop .inv .3 f
     (pairs-first (s .args .offset) (pow-pos 64) (zero-lt-suc 0) (unit _) (s .pre .0) (unit _) (low .before .before .before .before .wrapping-sub .ensures)
     (low .before .before .wrapping-sub2 .ensures) (low .before .wrapping-mul .ensures) r (low .add-number .ensures)))
-    added)))
+    added))
