@@ -1,8 +1,9 @@
--- The lines of a first variable: a line whose passes are all made is the moved line, and a table whose parts of several lines come back moved is moved along its
--- first variable.
+-- The lines of a first variable: a line whose passes are all made is the moved line, and a table whose parts of several lines come back moved is moved along
+-- its first variable.
 use mathlib.Core.Path.{_≡_, sym, ap, _∙_, fun-ext}
 use Prim.Native.Nat.{ℕ, zero, suc, _+_, _-_, _*_, _/_, _%_, _≤_, _<_}
-use native.Mathlib.Nat.{le-of-suc-le-suc, zero-lt-suc, mod-lt, div-add-mod', div-lt-iff-lt-mul, le-div-iff-mul-le, mul-le-mul-right, one-mul, mul-one, mod-one, div-one, add-zero}
+use native.Mathlib.Nat.{le-of-suc-le-suc, zero-lt-suc, mod-lt, div-add-mod', div-lt-iff-lt-mul, le-div-iff-mul-le, mul-le-mul-right}
+use native.Mathlib.Nat.{one-mul, mul-one, mod-one, div-one, add-zero}
 use native.Mathlib.Omega.{arith}
 use mathlib.Core.List.{List}
 use lib.ListN.{length}
@@ -23,7 +24,8 @@ unfolding lined
 lined-one line d f x = simp (mul-one, mod-one, div-one, add-zero)
 
 -- and a table of one line
-pub single-line : (line : Line) (d : ℕ) (t : List ℕ) → length t ≡ suc d → tabulate (length t) (lined line 1 d (at t)) ≡ tabulate (length t) (blocked line 1 d (at t))
+pub single-line : (line : Line) (d : ℕ) (t : List ℕ) → length t ≡ suc d
+    → tabulate (length t) (lined line 1 d (at t)) ≡ tabulate (length t) (blocked line 1 d (at t))
 single-line line d t long =
     tabulate-cong (length t) _ _ (λ x h.
     lined-one line d (at t) x
@@ -56,7 +58,8 @@ module _ {m d : ℕ} (a : ℕ) (positive : 0 < m) {t t′ : List ℕ} where
           ∙ nodeLine-moved positive a d (at (lineAt d c t)) x h
 
 -- the lines before place `from` of t are moved; then the lines from there to e, which come back as ys, are moved too
-pub lines-put : (m a : ℕ) {d : ℕ} {t₀ t : List ℕ} {from : ℕ} (e n : ℕ) (ys : List ℕ) → Neighbours (movedLine m a) d t₀ t from → e ≡ from + n * suc d → e ≤ length t
+pub lines-put : (m a : ℕ) {d : ℕ} {t₀ t : List ℕ} {from : ℕ} (e n : ℕ) (ys : List ℕ)
+    → Neighbours (movedLine m a) d t₀ t from → e ≡ from + n * suc d → e ≤ length t
     → EachLine d (Moves m a d) (part from e t) ys → Neighbours (movedLine m a) d t₀ (put from e t ys) e
 lines-put m a {d} {t₀} {t} {from} e n ys r next fits moved =
     record {
