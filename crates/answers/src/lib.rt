@@ -1,10 +1,12 @@
 // The answers of the calls. specs/Said.antt gives the number and the value of each.
+#![tactic(auto)]
+
 ghost use Rattle.std.specs.Prelude.{◌≡◌};
 ghost use Rattle.meaning.specs.Replies.{told};
 ghost use Rattle.answers.specs.Said.{code, said_number, said, said_truth};
 
 // Why a call is turned down.
-#[derive(Drop)]
+#[derive(Clone, Copy)]
 pub enum Refusal {
     // The support is empty: 1.
     EmptySupport,
@@ -33,21 +35,21 @@ pub enum Refusal {
 }
 
 // A call that only fills lent tables.
-#[derive(Drop)]
+#[derive(Clone, Copy)]
 pub enum Outcome {
     Accepted,
     Refused(Refusal),
 }
 
 // A call that answers a number.
-#[derive(Drop)]
+#[derive(Clone, Copy)]
 pub enum Number {
     Value(u64),
     Refused(Refusal),
 }
 
 // A call that answers yes or no.
-#[derive(Drop)]
+#[derive(Clone, Copy)]
 pub enum Truth {
     Yes,
     No,

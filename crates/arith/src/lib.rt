@@ -1,4 +1,6 @@
 // Arithmetic modulo 2^w on u64, for every width: at width 0 the modulus is 1, from 64 on it is 2^64.
+#![tactic(auto)]
+
 ghost use Rattle.std.specs.Prelude.{◌≡◌, ◌+◌, ◌-◌, ◌*◌, ◌%◌, ◌^◌, ◌<◌, min};
 ghost use Rattle.meaning.specs.Differences.{minus};
 

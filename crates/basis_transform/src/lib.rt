@@ -1,4 +1,6 @@
 // Conversions of coefficient boxes between powers and falling factorials, along every variable, by repeated synthetic division.
+#![tactic(auto)]
+
 ghost use Rattle.std.specs.Prelude.{◌≡◌, ◌^◌, false, [], ◌∷◌};
 ghost use Rattle.meaning.specs.Settings.{cube, fits_width};
 ghost use Rattle.meaning.specs.Calls.{in_out_number, convert_left};

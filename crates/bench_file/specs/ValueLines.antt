@@ -1,5 +1,5 @@
 -- In the values: the bytes so far are the first two lines, the lines of the values so far, and what there is of the next.
-use Rattle.std.specs.Prelude.{◌≡◌, refl, List, [], ◌∷◌, ◌++◌, ◌⊎◌, ℕ, ◌+◌, ◌^◌, ◌≤◌, ◌<◌, length, set}
+use Rattle.std.specs.Prelude.{◌≡◌, refl, List, [], ◌∷◌, ◌++◌, ℕ, ◌+◌, ◌^◌, ◌≤◌, ◌<◌, length, set}
 use Rattle.std.proofs.Common.{sym, ◌∙◌, ap, ap₂, subst, append_assoc, append-nil, ⊎_elim, add-one, arith, length-set}
 use Rattle.bench_file.specs.Text.{columns, number, numbers, line}
 use Rattle.bench_file.specs.Columns.{with_last_digit, with_column_of}

@@ -9,7 +9,7 @@ ghost use Rattle.bench_file.specs.Printed.{printed, printed_size, term_text, one
 use crate::number;
 
 // How many bytes of the buffer the text takes. A buffer without room for the text stays as it was.
-#[derive(Drop)]
+#[derive(Clone, Copy)]
 pub enum Written {
     Bytes(usize),
     NoRoom,

@@ -4,7 +4,7 @@ ghost use Rattle.bench_file.specs.Text.{shown, number};
 ghost use Rattle.bench_file.specs.Columns.{Reads, with_last_digit, with_column_of};
 
 // What a text of 21 columns shows.
-#[derive(Drop)]
+#[derive(Clone, Copy)]
 pub enum Field {
     Number(u64),
     Ill,

@@ -7,7 +7,7 @@ use crate::number;
 use crate::number::Field;
 
 // Where the reading stands.
-#[derive(Drop)]
+#[derive(Clone, Copy)]
 pub enum Stage {
     // In the first line: width, total variables, degree, support count.
     FirstLine,
@@ -24,7 +24,7 @@ pub enum Stage {
 }
 
 // What is known of the bytes so far.
-#[derive(Drop)]
+#[derive(Clone, Copy)]
 pub struct Reader {
     pub stage: Stage,
     // Columns of the open number so far, and what they show. At the end of a value's line this is the value.
@@ -38,7 +38,7 @@ pub struct Reader {
 }
 
 // What a whole input was.
-#[derive(Drop)]
+#[derive(Clone, Copy)]
 pub enum Reading {
     // The first two lines are ill-formed.
     IllHead,

@@ -42,8 +42,8 @@ pub fn next_mask(mask: u64, n: usize) -> u64
 // The masks of the cells of one exponent more, `size` of them from `from` on: those of the exponent before without t bits.
 fn next_cells(masks: &mut [u64], size: usize, from: usize, t: u32)
     requires { (size ≤ from) × (from + size ≤ length masks.old) × (t < 64) }
-    ensures* { λ r. ⌜ ((f : ℕ → ℕ) (t₀ : List ℕ) → Filled f t₀ masks.old from → ((r : ℕ) → r < size → f (from + r) ≡ f (from - size + r) / 2 ^ t)
-        → Filled f t₀ masks.new (from + size)) ⌝ }
+    ensures { (f : ℕ → ℕ) (t₀ : List ℕ) → Filled f t₀ masks.old from → ((k : ℕ) → k < size → f (from + k) ≡ f (from - size + k) / 2 ^ t)
+        → Filled f t₀ masks.new (from + size) }
 {
     let before = from - size;
     let mut r = 0;

@@ -1,5 +1,7 @@
 // Boxes row by row: sum, reduction, and the tests that all coefficients are below their bounds and that two boxes are equal modulo them, with no division and
 // no call for a cell.
+#![tactic(auto)]
+
 ghost use Rattle.std.specs.Prelude.{◌≡◌, min, false, cond, ◌&&◌, length, ◌==◌};
 ghost use Rattle.meaning.specs.Boxes.{cells};
 ghost use Rattle.meaning.specs.Values.{bound, box_total, box_reduced};

@@ -14,10 +14,10 @@ use Rattle.theory.specs.Tables.{at-tabulate-zero}
 use Rattle.theory.specs.Ranges.{width_high}
 use Rattle.demand3.specs.Settings.{CallPasses, passing_iff, passing_not_6}
 use Rattle.demand3.specs.Promises.{Decides, Valued}
-use Rattle.demand3.specs.Recovery.{answer_normal}
-use Rattle.demand3.specs.NormalForms.{normal_word}
-use Rattle.demand3.specs.Decided.{decides}
-use Rattle.demand3.specs.BoxCalls.{valued}
+use Rattle.demand3.proofs.Recovered.{answer_normal}
+use Rattle.demand3.proofs.NormalForms.{normal_word}
+use Rattle.demand3.proofs.Decided.{decides}
+use Rattle.demand3.proofs.BoxCalls.{valued}
 use Rattle.byte_calls.specs.Bytes.{decoded, encoded}
 use Rattle.byte_calls.specs.ByteLaws.{decode_encode}
 use Rattle.byte_calls.specs.Calls.{bytes_recovery_cause, bytes_recovery_number, bytes_recovery_left, bytes_value_reply}

@@ -1,4 +1,6 @@
 // The database's calls: recovery and value on tables of bytes, eight to an entry, least first, at most 4,096 entries each.
+#![tactic(auto)]
+
 ghost use Rattle.std.specs.Prelude.{◌≡◌, true, false, ◌*◌, [], ◌∷◌};
 ghost use Rattle.meaning.specs.Settings.{cube, fits_width};
 ghost use Rattle.demand3.specs.Settings.{CallPasses};

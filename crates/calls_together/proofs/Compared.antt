@@ -14,8 +14,8 @@ use Rattle.theory.specs.SameForms.{form}
 use Rattle.demand3.specs.Words.{AgreeingOver, Relaid}
 use Rattle.demand3.specs.Settings.{CallPasses, FormPasses}
 use Rattle.demand3.specs.Promises.{Decides, Reduced, Compared}
-use Rattle.demand3.specs.Comparisons.{placed, same_sym, same_trans, reduced_same, same_any_order_lem}
-use Rattle.demand3.specs.SameRecoveries.{recoveries_same}
+use Rattle.demand3.proofs.Comparisons.{placed, same_sym, same_trans, reduced_same, same_any_order_lem}
+use Rattle.demand3.proofs.SameRecoveries.{recoveries_same}
 use Rattle.calls_together.proofs.Together.{reply-accepted, passes_with, Recovers}
 
 -- ---- one comparison

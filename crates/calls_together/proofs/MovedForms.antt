@@ -18,10 +18,11 @@ use Rattle.theory.specs.Every.{true-iff}
 use Rattle.theory.specs.DemandThree.{accepts_of_agrees}
 use Rattle.theory.specs.Moved.{moved-moved, moved-zero, moved-box_total}
 use Rattle.demand3.specs.Words.{polynomial_value, PointOf, Agreeing, BoxOnGrid}
-use Rattle.demand3.specs.Settings.{CallPasses, call_iff}
+use Rattle.demand3.specs.Settings.{CallPasses}
+use Rattle.demand3.proofs.Recovered.{call_iff}
 use Rattle.demand3.specs.Promises.{Decides, DatumMoved}
 use Rattle.demand3.specs.Recovery.{value-eq}
-use Rattle.demand3.specs.BoxCalls.{after_move}
+use Rattle.demand3.proofs.BoxCalls.{after_move}
 use Rattle.calls_together.proofs.Together.{Recovers, passed, passes_with}
 
 module _ (total w : ℕ) (support ds : List ℕ) where

@@ -13,7 +13,7 @@ use Rattle.meaning.specs.Settings.{fits_width}
 use Rattle.demand3.specs.Words.{polynomial_value, PointOf, Agreeing, Coefficients, GridSum}
 use Rattle.demand3.specs.Settings.{Lengths, Exact, CallPasses}
 use Rattle.demand3.specs.Promises.{Decides, Valued, Judged, Summed, Normalised}
-use Rattle.demand3.specs.Consequences.{sum-accepted, sum-answer, recovered_normal_form}
+use Rattle.demand3.proofs.Consequences.{sum-accepted, sum-answer, recovered_normal_form}
 
 -- a reply with the number 0
 pub reply-accepted : (r : Reply) (v : ℕ) → r.number ≡ 0 → r.value ≡ v → r ≡ accepted v

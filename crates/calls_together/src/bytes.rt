@@ -10,7 +10,7 @@ ghost use Rattle.byte_calls.specs.Bytes.{decoded};
 use answers::{Number, Outcome};
 
 // What both said.
-#[derive(Drop)]
+#[derive(Clone, Copy)]
 struct LevelOutcomes {
     recovered: Outcome,
     level: Number,

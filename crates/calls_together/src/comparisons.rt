@@ -10,7 +10,7 @@ ghost use Rattle.settings.specs.Forms.{cube_form};
 use answers::{Outcome, Truth};
 
 // What two recoveries and the comparison of their answers said.
-#[derive(Drop)]
+#[derive(Clone, Copy)]
 struct RecoveredTwice {
     first: Outcome,
     second: Outcome,
@@ -51,7 +51,7 @@ fn recover_twice(
 }
 
 // What a reduction and the comparison with what was before said.
-#[derive(Drop)]
+#[derive(Clone, Copy)]
 struct ReducedOutcomes {
     reduced: Outcome,
     same: Truth,
@@ -79,7 +79,7 @@ fn reduce_and_compare(
 }
 
 // What two comparisons said.
-#[derive(Drop)]
+#[derive(Clone, Copy)]
 struct TwoTruths {
     one: Truth,
     other: Truth,
@@ -123,7 +123,7 @@ fn same_any_order(
 }
 
 // What four comparisons said.
-#[derive(Drop)]
+#[derive(Clone, Copy)]
 struct FourTruths {
     first: Truth,
     turned: Truth,

@@ -11,7 +11,7 @@ ghost use Rattle.answers.specs.Said.{said, said_number, said_truth};
 use answers::{Number, Outcome, Truth};
 
 // What recovery, the value and the test of a normal form said.
-#[derive(Drop)]
+#[derive(Clone, Copy)]
 struct ValueOutcomes {
     recovered: Outcome,
     value: Number,
@@ -48,7 +48,7 @@ fn value_of_recovered(
 }
 
 // What two calls said.
-#[derive(Drop)]
+#[derive(Clone, Copy)]
 struct TwoOutcomes {
     first: Outcome,
     second: Outcome,

@@ -9,7 +9,7 @@ ghost use Rattle.answers.specs.Said.{said_number};
 use answers::Outcome;
 
 // What four calls said.
-#[derive(Drop)]
+#[derive(Clone, Copy)]
 struct SumOutcomes {
     first: Outcome,
     second: Outcome,
@@ -52,7 +52,7 @@ fn recover_sum(
 }
 
 // What two calls said.
-#[derive(Drop)]
+#[derive(Clone, Copy)]
 struct GridOutcomes {
     small: Outcome,
     large: Outcome,

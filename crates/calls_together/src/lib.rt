@@ -1,8 +1,10 @@
 // What holds of several calls together: functions that make the calls, and say in their contracts what follows for their answers. Nothing uses them; the gate
 // proves them, so that each statement is one about the compiled calls.
+#![tactic(auto)]
+
 mod bytes;
 mod comparisons;
 mod forms;
 mod grids;
-mod moves;
+mod moved;
 mod rooms;

@@ -12,7 +12,7 @@ use room::RecoveryRoom;
 use room::sizes::FitRoom;
 
 // What the room of recovery and recovery said.
-#[derive(Drop)]
+#[derive(Clone, Copy)]
 struct RecoveryPair {
     room: RecoveryRoom,
     call: Outcome,
@@ -40,7 +40,7 @@ fn recover_in_room(
 }
 
 // What the room of the fit and the fit said.
-#[derive(Drop)]
+#[derive(Clone, Copy)]
 struct FitPair {
     room: FitRoom,
     call: Number,

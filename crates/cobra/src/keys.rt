@@ -29,7 +29,7 @@ fn store(key: MonomialKey, table: &mut [u8])
 }
 
 // What is read of the first exponents of a key: their sum, the largest, the twos in their factorials.
-#[derive(Drop)]
+#[derive(Clone, Copy)]
 enum Measure {
     Total,
     Largest,

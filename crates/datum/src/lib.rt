@@ -1,4 +1,6 @@
 // The datum of a form, moved: each variable replaced by itself plus an offset.
+#![tactic(auto)]
+
 ghost use Rattle.std.specs.Prelude.{◌≡◌, false, [], ◌∷◌, length};
 ghost use Rattle.meaning.specs.Settings.{cube, fits_width};
 ghost use Rattle.meaning.specs.Calls.{move_number, move_left};

@@ -6,7 +6,7 @@ use borrow.Author.Tests.{ltb-false, le-ltb, leb-false, lt-leb, eqb-true, eq-eqb,
 use Rattle.meaning.specs.Tables.{at}
 use Rattle.meaning.specs.Boxes.{cells}
 use Rattle.meaning.specs.Sameness.{Form}
-use Rattle.meaning.specs.Settings.{fits_width, table_limit, some, repeated, limited_number, call_number, first}
+use Rattle.meaning.specs.Settings.{fits_width, some, repeated, limited_number, first}
 use Rattle.demand3.specs.Tests.{false-true, and_true, cond-false, cond-true, first-zero, not_6, cond_not_6, first_not_6, none_pass, none_repeated, positive_iff}
 
 -- the width is one that calls take
@@ -158,9 +158,3 @@ module _ (limit : ℕ) (strict : Bool) (total : ℕ) (fits : Bool) (support ds :
     passing_not_6 =
         first_not_6 (first (nine_unless before) settings) (nine_unless (tables (cells ds)))
         (first_not_6 (nine_unless before) settings (nine_not_6 before) settings_not_6) (nine_not_6 (tables (cells ds)))
-
--- a call on tables of numbers passes exactly when its number is 0
-pub call_iff : (strict : Bool) (total : ℕ) (fits : Bool) (support ds : List ℕ) (tables : ℕ → Lengths)
-    → (call_number strict total fits support ds (exactly true (tables (cells ds))) ≡ 0) ↔ CallPasses table_limit strict total fits support ds tables
-unfolding call_number
-call_iff strict total fits support ds tables = passing_iff table_limit strict total fits support ds [] tables

@@ -1,5 +1,5 @@
 -- The loop that counts the cells of a box: the count so far times that of the variables left is all, so that a count above a table's length decides.
-use Rattle.std.proofs.Common.{◌≡◌, ℕ, suc, ◌+◌, ◌*◌, ◌^◌, ◌<◌, ◌≤◌, false, eqb, ◌⊎◌, List, [], ◌∷◌, length, drop, sym, ap, ◌∙◌, inl, inr, zero-le, le_trans, le_of_suc-le-suc, lt_irrefl, mul-le-mul_right, mul-le-mul_left, mul-one, add-one, arith, drop_of_length-le, drop-cons, ne_eqb}
+use Rattle.std.proofs.Common.{◌≡◌, ℕ, zero, suc, ◌+◌, ◌*◌, ◌^◌, ◌<◌, ◌≤◌, false, eqb, ◌⊎◌, List, length, drop, sym, ap, ◌∙◌, inl, inr, zero-le, le_trans, le_of_suc-le-suc, lt_irrefl, mul-le-mul_right, mul-le-mul_left, mul-one, add-one, arith, drop_of_length-le, drop-cons, ne_eqb}
 use Rattle.meaning.specs.Tables.{at}
 use Rattle.meaning.specs.Boxes.{cells}
 use Rattle.theory.specs.Boxes.{cells_pos}
@@ -33,6 +33,7 @@ module _ (ds : List ℕ) (size i : ℕ) (r : Counted ds size i) where
     too_many n more = sym (ne_eqb n (cells ds) λ e. lt_irrefl n (le_trans more (rw (e, split) (grows (size * (at ds i + 1)) _ (cells_pos (drop (suc i) ds))))))
       where
         grows : (a b : ℕ) → 0 < b → a ≤ a * b
+        grows a zero p = elim p [ ]
         grows a (suc b) p = omega arith
 
   -- with all variables

@@ -1,7 +1,7 @@
 -- The two loops that take a transform of one line to a flat table, for any transform: over the blocks of a table along one variable, and over the
 -- variables, each of which may have a transform of its own. A block is a part of the table, and comes back transformed. The loop over the variables keeps
 -- what is left to do: done to what is there, it gives what was asked.
-use Rattle.std.specs.Prelude.{◌≡◌, ℕ, suc, ◌+◌, ◌-◌, ◌*◌, ◌%◌, ◌<◌, ◌≤◌, List, [], ◌∷◌, length, drop, refl}
+use Rattle.std.specs.Prelude.{◌≡◌, ℕ, zero, suc, ◌+◌, ◌-◌, ◌*◌, ◌%◌, ◌<◌, ◌≤◌, List, [], ◌∷◌, length, drop, refl}
 use Rattle.std.proofs.Math.Path.{sym, ap, fun_ext}
 use Rattle.std.proofs.Common.{◌∙◌, zero-le, lt_irrefl, zero-lt-suc, add-zero, mul-pos, mul_comm, add-one, drop-cons}
 use Rattle.std.proofs.Math.Nat.{mul-one, mul-mod_left}
@@ -105,6 +105,7 @@ module _ (lines : ℕ → Line) (local : (i : ℕ) → Local (lines i)) (ds : Li
       block_fits = rw count (block-le (cells (drop (suc i) ds)) (s * suc (at ds i)) (cells_pos _))
         where
           block-le : (a b : ℕ) → 0 < a → b ≤ a * b
+          block-le zero b p = elim p [ ]
           block-le (suc a) b p = omega arith
 
       pub block_divides : length t % (s * suc (at ds i)) ≡ 0

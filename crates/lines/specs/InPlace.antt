@@ -2,7 +2,7 @@
 -- over a line leads from the state after p passes to the state after one pass more. Newton's differences go from the highest index down: after p
 -- passes index e of a line v holds the difference of order min p e at e - p, which is v e at the start and the difference of order e at 0 at the
 -- end. The s interleaved lines of a block are `lined` of FlatTables.
-use Rattle.std.specs.Prelude.{◌≡◌, ℕ, zero, suc, ◌+◌, ◌-◌, ◌*◌, ◌/◌, ◌%◌, ◌<◌, ◌≤◌, min, ◌⊎◌, List, length, set, slice_set, refl}
+use Rattle.std.specs.Prelude.{◌≡◌, ℕ, zero, suc, ◌+◌, ◌-◌, ◌*◌, ◌/◌, ◌%◌, ◌<◌, ◌≤◌, min, ◌⊎◌, List, length, slice_set, refl}
 use Rattle.std.proofs.Common.{sym, ap, ap₂, ◌∙◌, inl, inr, suc-le-suc, lt_irrefl, lt_of_lt_of_le, not-suc-le-zero, add-zero, add-suc, le_refl, eq-or-lt_of_le, le_of_suc-le-suc, div-add-mod', le-div_iff_mul-le, div-lt_iff_lt-mul, mul_comm, sub-eq-zero_of_le, add-one, sub-one, arith, length-set, get_or-set_same, get_or-set_other}
 use Rattle.std.proofs.Math.Nat.{add-mod_right, add-div_right, suc-min-suc, suc-sub-suc, le_trans, zero-min, sub-zero, min-eq_left, min-eq_right}
 use Rattle.std.proofs.Math.Decide.{dec_le}

@@ -1,5 +1,5 @@
 -- The lines of a first variable: d + 1 neighbours each, one line after the other. A loop takes a line a turn.
-use Rattle.std.specs.Prelude.{◌≡◌, ℕ, suc, ◌+◌, ◌-◌, ◌*◌, ◌/◌, ◌%◌, ◌^◌, ◌<◌, ◌≤◌, ◌⊎◌, List, length, slice_set, refl}
+use Rattle.std.specs.Prelude.{◌≡◌, ℕ, suc, ◌+◌, ◌-◌, ◌*◌, ◌%◌, ◌^◌, ◌<◌, ◌≤◌, ◌⊎◌, List, length, slice_set, refl}
 use Rattle.std.proofs.Common.{sym, ◌∙◌, zero-le, add-one, inl, inr, eq-or-lt_of_le, le_of_suc-le-suc, add-zero, one-mul, mul-one, div-one, le_refl, get_or-set_other}
 use Rattle.std.proofs.Math.Path.{ap, fun_ext}
 use Rattle.std.proofs.Math.Nat.{mod-one}

@@ -1,5 +1,5 @@
 -- A block of lines of degree 3: four rows of s numbers. A loop takes the lines by their offset in the rows, one a turn.
-use Rattle.std.specs.Prelude.{◌≡◌, ℕ, zero, suc, ◌+◌, ◌*◌, ◌/◌, ◌%◌, ◌^◌, ◌<◌, ◌≤◌, ◌≢◌, ◌⊎◌, List, length, set, slice_set, refl}
+use Rattle.std.specs.Prelude.{◌≡◌, ℕ, zero, suc, ◌+◌, ◌*◌, ◌/◌, ◌%◌, ◌^◌, ◌<◌, ◌≤◌, ◌≢◌, ◌⊎◌, List, length, slice_set, refl}
 use Rattle.std.proofs.Math.Path.{sym, ap}
 use Rattle.std.proofs.Common.{ap₂, ◌∙◌, inl, inr, add-one, eq-or-lt_of_le, le_of_suc-le-suc, lt_of_lt_of_le, not-suc-le-zero, mod-lt, div-add-mod'}
 use native.Mathlib.Omega.{arith}

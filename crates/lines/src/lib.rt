@@ -1,5 +1,7 @@
 // Transforms of lines, done to a flat table along one variable after the other, in place and modulo 2^64. The first variable's exponent counts fastest:
 // along a variable with stride s and degree d the table is cut into blocks of s * (d + 1) numbers, each of s interleaved lines.
+#![tactic(auto)]
+
 ghost use Rattle.std.specs.Prelude.{◌≡◌, suc, ◌*◌, ◌%◌, ◌^◌, ◌<◌, ◌≤◌, true, cond, ◌⊎◌, length, drop, ◌==◌};
 ghost use Rattle.meaning.specs.Tables.{tabulate, at};
 ghost use Rattle.meaning.specs.Boxes.{cells};
@@ -12,7 +14,7 @@ mod first;
 mod fours;
 
 // What is done to a line: Newton's differences at 0, or the coefficients of powers turned into those of falling factorials, or these turned back.
-#[derive(Drop)]
+#[derive(Clone, Copy)]
 pub enum Transform {
     Differences,
     ToFalling,

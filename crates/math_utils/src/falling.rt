@@ -8,7 +8,7 @@ ghost use Rattle.math_utils.specs.Falling.{falling_said, Stops};
 use answers::{Number, Refusal};
 
 // A product, with the number of factors that were taken, or why it is turned down.
-#[derive(Drop)]
+#[derive(Clone, Copy)]
 pub enum FallingProduct {
     Product { value: u64, factors: u64 },
     Refused(Refusal),

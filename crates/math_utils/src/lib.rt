@@ -1,4 +1,6 @@
 // Counts of twos, odd parts and inverses modulo powers of two, falling products, and both tables of Stirling numbers.
+#![tactic(auto)]
+
 ghost use Rattle.std.specs.Prelude.{◌≡◌, ◌*◌, ◌%◌, ◌^◌, ◌≤◌};
 ghost use Rattle.meaning.specs.Factorials.{factorial, twos, degree_cap_of};
 ghost use Rattle.meaning.specs.Inverses.{inverse};
@@ -21,7 +23,7 @@ pub fn twos_in_factorial(k: u32) -> u32
 }
 
 // How many bits of a coefficient count where the factorials have `weight` twos.
-#[derive(Drop)]
+#[derive(Clone, Copy)]
 pub enum Precision {
     Bits(u32),
     Nothing,

@@ -10,7 +10,7 @@ ghost use Rattle.math_utils.specs.declared.stirling.Kind.{Kind};
 use answers::{Outcome, Refusal};
 
 // The two kinds of Stirling numbers.
-#[derive(Drop)]
+#[derive(Clone, Copy)]
 pub(crate) enum Kind {
     First,
     Second,

@@ -1,1 +1,2 @@
 // The definitions that contracts and theorems cite are in specs/. There is no code here.
+#![tactic(auto)]

@@ -1,4 +1,6 @@
 // Exponent lists of up to twenty variables, as a key that is passed and returned by value.
+#![tactic(auto)]
+
 ghost use Rattle.std.specs.Prelude.{◌≡◌, ◌≤◌, max, cond, ltb, length};
 ghost use Rattle.meaning.specs.Tables.{tabulate, at};
 ghost use Rattle.meaning.specs.Sums.{sum};
@@ -9,20 +11,20 @@ ghost use Rattle.answers.specs.Said.{said, said_number};
 use answers::{Number, Outcome, Refusal};
 
 // Twenty exponents; those past the variables in use are zero.
-#[derive(Drop)]
+#[derive(Clone, Copy)]
 pub struct MonomialKey {
     pub exponents: [u8; 20],
 }
 
 // A key with what the call says: all zero, or as it was, beside a refusal.
-#[derive(Drop)]
+#[derive(Clone, Copy)]
 pub struct KeyAnswer {
     pub outcome: Outcome,
     pub key: MonomialKey,
 }
 
 // An exponent with the key that was asked.
-#[derive(Drop)]
+#[derive(Clone, Copy)]
 pub struct ExponentAnswer {
     pub answer: Number,
     pub key: MonomialKey,

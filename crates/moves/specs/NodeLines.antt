@@ -1,7 +1,7 @@
 -- Several lines moved at once, number by number. The lines of a first variable have d + 1 neighbours each, one line behind the other; what happens to a table
 -- is said of each of its lines as a table of its own (`EachLine`), so that the laws of a single line, which is a block of stride 1, serve all of them. A loop
 -- goes from line to line and alters the number at one place of each (`Numbers`).
-use Rattle.std.specs.Prelude.{◌≡◌, ℕ, zero, suc, ◌+◌, ◌-◌, ◌*◌, ◌%◌, ◌<◌, ◌≤◌, ◌⊎◌, List, length, ◌≢◌, slice_set, refl}
+use Rattle.std.specs.Prelude.{◌≡◌, ℕ, zero, suc, ◌+◌, ◌*◌, ◌%◌, ◌<◌, ◌≤◌, ◌⊎◌, List, length, ◌≢◌, slice_set, refl}
 use Rattle.std.proofs.Common.{sym, ap, ap₂, ◌∙◌, inl, inr, not-suc-le-zero, le_of_suc-le-suc, eq-or-lt_of_le, mul-le-mul_right, le_refl, arith, length-set, get_or-set_same, get_or-set_other}
 use Rattle.std.proofs.Math.Decide.{dec_le}
 use Rattle.std.proofs.Math.Arith.{digits_mod}

@@ -6,7 +6,7 @@ ghost use Rattle.lines.specs.FlatTables.{lined, blocked};
 ghost use Rattle.lines.specs.RowLoops.{Rows};
 
 // The three lower coefficients of a moved line.
-#[derive(Drop)]
+#[derive(Clone, Copy)]
 struct Three {
     low: u64,
     middle: u64,

@@ -1,5 +1,7 @@
 // Moves of a flat table along one variable after the other, in place and modulo 2^64: coefficients of falling factorials become those of the polynomial with
 // each variable replaced by itself plus an offset. The first variable's exponent counts fastest.
+#![tactic(auto)]
+
 ghost use Rattle.std.specs.Prelude.{◌≡◌, ◌^◌, cond, length, ◌==◌};
 ghost use Rattle.meaning.specs.Tables.{at};
 ghost use Rattle.meaning.specs.Boxes.{cells};

@@ -1,5 +1,5 @@
 -- Differences of multiples: those of k times a function, modulo n k, are k times those modulo n, exactly.
-use Rattle.std.proofs.Common.{◌≡◌, ℕ, zero, suc, ◌+◌, ◌-◌, ◌*◌, ◌/◌, ◌%◌, ◌<◌, List, [], ◌∷◌, sym, refl, ap, ◌∙◌, ap₂, add-zero, mul_comm, add-mul, zero-mul, mul-div_cancel}
+use Rattle.std.proofs.Common.{◌≡◌, ℕ, zero, suc, ◌+◌, ◌-◌, ◌*◌, ◌%◌, ◌<◌, List, [], ◌∷◌, sym, refl, ap, ◌∙◌, ap₂, add-zero, mul_comm, add-mul, zero-mul, mul-div_cancel}
 use mathlib.Core.Path.{fun_ext}
 use native.Mathlib.Nat.{mul-sub, mul-mod_left}
 use lib.Arith.{mod-mul}

@@ -1,5 +1,5 @@
 -- The inverses of the cells of a row, from exponent to exponent of a variable, and from variable to variable.
-use Rattle.std.proofs.Common.{◌≡◌, ℕ, zero, suc, ◌+◌, ◌-◌, ◌*◌, ◌%◌, ◌^◌, ◌<◌, ◌≤◌, Bool, true, false, ◌&&◌, ltb, List, [], ◌∷◌, ◌++◌, length, take, drop, set, sym, refl, ap, ◌∙◌, true≢false, le_refl, le_of_suc-le-suc, not-suc-le-zero, add-zero, add_assoc, mul-le-mul_right, mul_comm, mul-one, add-one, arith, length-set, drop_of_length-le, drop-cons, take-suc, ltb-true, le-ltb, lt-ltb}
+use Rattle.std.proofs.Common.{◌≡◌, ℕ, zero, suc, ◌+◌, ◌*◌, ◌%◌, ◌^◌, ◌<◌, ◌≤◌, Bool, true, false, ◌&&◌, ltb, List, [], ◌∷◌, ◌++◌, length, take, drop, set, sym, refl, ap, ◌∙◌, true≢false, le_refl, le_of_suc-le-suc, not-suc-le-zero, add-zero, add_assoc, mul-le-mul_right, mul_comm, mul-one, add-one, arith, length-set, drop_of_length-le, drop-cons, take-suc, ltb-true, le-ltb, lt-ltb}
 use lib.Seq.{take-length}
 use lib.Pow.{pow-lt}
 use Rattle.meaning.specs.Tables.{at}

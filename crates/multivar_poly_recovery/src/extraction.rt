@@ -13,7 +13,7 @@ ghost use Rattle.multivar_poly_recovery.specs.Extracted.{Extracted, Row, Mask, I
 use crate::units;
 
 // The coefficient of a cell, or a difference that is not divisible as it has to be.
-#[derive(Drop)]
+#[derive(Clone, Copy)]
 enum Cell {
     Coefficient(u64),
     Refused,

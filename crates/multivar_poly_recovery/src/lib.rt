@@ -1,4 +1,6 @@
 // Recovery of a polynomial's coefficients from its values on a grid: Newton's differences, then each divided by the factorials of its exponents.
+#![tactic(auto)]
+
 ghost use Rattle.std.specs.Prelude.{◌≡◌, true, [], ◌∷◌};
 ghost use Rattle.meaning.specs.Settings.{cube, fits_width};
 ghost use Rattle.meaning.specs.Calls.{recovery_number, recovery_left};

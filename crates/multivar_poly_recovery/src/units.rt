@@ -50,8 +50,8 @@ pub(crate) fn below_16(degrees: &[u8]) -> bool
 // The inverses of the cells of one exponent more, `size` of them from `from` on: v times those of exponent 0.
 fn next_cells(units: &mut [u64], size: usize, from: usize, v: u64)
     requires { (size ≤ from) × (from + size ≤ length units.old) }
-    ensures* { λ r. ⌜ ((f : ℕ → ℕ) (t₀ : List ℕ) → Filled f t₀ units.old from → ((r : ℕ) → r < size → f (from + r) ≡ (f r * v) % 2 ^ 64)
-        → Filled f t₀ units.new (from + size)) ⌝ }
+    ensures { (f : ℕ → ℕ) (t₀ : List ℕ) → Filled f t₀ units.old from → ((k : ℕ) → k < size → f (from + k) ≡ (f k * v) % 2 ^ 64)
+        → Filled f t₀ units.new (from + size) }
 {
     let mut r = 0;
     while r < size {

@@ -11,7 +11,7 @@ use Rattle.meaning.specs.Calls.{valid_reply, value_reply, sum_number, sum_left, 
 use Rattle.box_rows.specs.Bounds.{is_below}
 use Rattle.demand3.specs.Settings.{CallPasses}
 use Rattle.demand3.specs.Promises.{Valued, Judged, Summed, Reduced}
-use Rattle.demand3.specs.BoxCalls.{table_valued, judged, summed, reduced}
+use Rattle.demand3.proofs.BoxCalls.{table_valued, judged, summed, reduced}
 use Rattle.demand3.specs.Also.{also, also₂}
 use Rattle.answers.specs.declared.Refusal.{Refusal}
 use Rattle.answers.specs.Said.{code}

@@ -1,4 +1,6 @@
 // Boxes of coefficients: validity, value at a point, sum, reduction.
+#![tactic(auto)]
+
 ghost use Rattle.std.specs.Prelude.{◌≡◌, true, false, [], ◌∷◌, length};
 ghost use Rattle.meaning.specs.Settings.{cube, fits_width};
 ghost use Rattle.meaning.specs.Calls.{valid_reply, value_reply, sum_number, sum_left, reduce_number, reduce_left};

@@ -1,4 +1,6 @@
 // Normal forms of polynomials given by their coefficients of powers.
+#![tactic(auto)]
+
 ghost use Rattle.std.specs.Prelude.{◌≡◌, false, [], ◌∷◌};
 ghost use Rattle.meaning.specs.Settings.{cube, fits_width};
 ghost use Rattle.meaning.specs.Conversions.{normal_box};

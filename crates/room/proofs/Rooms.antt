@@ -2,21 +2,21 @@
 use mathlib.Core.Path.{◌≡◌, refl, sym, ap, ap₂, ◌∙◌}
 use mathlib.Core.Bool.{true}
 use mathlib.Core.List.{List}
-use Prim.Native.Nat.{ℕ, zero, suc, ◌+◌, ◌*◌, ◌^◌, ◌≤◌, ◌<◌, zero-le}
+use Prim.Native.Nat.{ℕ, zero, suc, ◌^◌, ◌≤◌, ◌<◌, zero-le}
 use native.Mathlib.Nat.{suc-ne-zero, mul-le-mul, le_trans, le_of_eq, mul_comm, le-mul_of_pos_right}
 use native.Mathlib.Omega.{arith}
 use lib.ListN.{length, replicate, length-replicate, get_or-replicate}
 use Rattle.meaning.specs.Tables.{at}
 use Rattle.meaning.specs.Sums.{sum}
 use Rattle.meaning.specs.Boxes.{cells}
-use Rattle.meaning.specs.Settings.{table_limit, fits_width, cube, settings_number, limited_number}
+use Rattle.meaning.specs.Settings.{table_limit, fits_width, cube, settings_number}
 use Rattle.meaning.specs.Counts.{pass_subtractions, variable_subtractions, subtractions, recovery_room_of, recovery_room_lem}
 use Rattle.theory.specs.Sums.{sum_eq}
 use Rattle.theory.specs.Boxes.{cells_pos, cells_power}
 use Rattle.answers.specs.declared.Refusal.{Refusal}
 use Rattle.answers.specs.Said.{code}
 use Rattle.answers.specs.Laws.{code-suc}
-use Rattle.settings.specs.Causes.{Passes, passes, settings-cells-le}
+use Rattle.settings.specs.Causes.{passes, settings-cells-le}
 use Rattle.room.specs.Subtractions.{twice_cube}
 use Rattle.room.specs.Told.{room_told}
 use Rattle.room.specs.Promises.{reached, Costs}

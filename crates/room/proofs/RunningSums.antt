@@ -1,6 +1,6 @@
 -- The columns counted by running sums: the counts with a variable more are sums of the counts without it, each of as many as the degree and one more.
-use mathlib.Core.Path.{◌≡◌, refl, sym, ap, ap₂, ◌∙◌}
-use mathlib.Core.Bool.{Bool, true, false, cond}
+use mathlib.Core.Path.{◌≡◌, refl, sym, ap, ◌∙◌}
+use mathlib.Core.Bool.{Bool, cond}
 use mathlib.Core.List.{List, [], ◌∷◌}
 use Prim.Native.Nat.{ℕ, zero, suc, ◌+◌, ◌*◌, ◌-◌, ◌≤◌, ◌<◌, min, zero-le}
 use native.Mathlib.Nat.{le_trans, le_of_eq, le_refl, le-mul_of_pos_right, zero-lt-suc, mul-le-mul_right}

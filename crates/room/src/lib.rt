@@ -1,4 +1,6 @@
 // What recovery needs, from its settings alone, before a value is surveyed: its cells and its subtractions. What a fit needs is said in `sizes`.
+#![tactic(auto)]
+
 ghost use Rattle.std.specs.Prelude.{◌≡◌, ◌≤◌, length};
 ghost use Rattle.meaning.specs.Boxes.{cells};
 ghost use Rattle.meaning.specs.Settings.{cube};
@@ -12,7 +14,7 @@ pub mod sizes;
 use answers::{Number, Refusal};
 
 // The counts of a grid that recovery takes, or why it is turned down.
-#[derive(Drop)]
+#[derive(Clone, Copy)]
 pub enum RecoveryRoom {
     Counts { cells: u64, subtractions: u64 },
     Refused(Refusal),

@@ -23,7 +23,7 @@ pub fn lesser_degree(a: u8, b: u8) -> u8
 }
 
 // The counts of a fit that is taken, or why it is turned down.
-#[derive(Drop)]
+#[derive(Clone, Copy)]
 pub enum FitRoom {
     Counts {
         rows: u64,

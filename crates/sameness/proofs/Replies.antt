@@ -15,7 +15,7 @@ use Rattle.theory.specs.Scattered.{Places, places_of}
 use Rattle.theory.specs.SameForms.{form}
 use Rattle.demand3.specs.Settings.{FormPasses}
 use Rattle.demand3.specs.Promises.{Compared}
-use Rattle.demand3.specs.Comparisons.{form-iff, compared}
+use Rattle.demand3.proofs.Comparisons.{form-iff, compared}
 use Rattle.demand3.specs.Also.{also}
 use Rattle.answers.specs.declared.Refusal.{Refusal}
 use Rattle.answers.specs.Said.{code}

@@ -1,9 +1,9 @@
 -- The walk over the sub-boxes of the last variable. In the sub-box of the last exponent e the bits are fewer by the twos in e!, and the place is further by
 -- the way of e, so that the tests of a sub-box are those of its part of the table.
 use mathlib.Core.Path.{◌≡◌, refl, sym, ◌∙◌, ap, ap₂}
-use mathlib.Core.Bool.{Bool, true, false}
+use mathlib.Core.Bool.{Bool, true}
 use mathlib.Core.List.{List, [], ◌∷◌, ◌++◌}
-use Prim.Native.Nat.{ℕ, zero, suc, ◌+◌, ◌*◌, ◌-◌, ◌/◌, ◌%◌, ◌^◌, ◌≤◌, ◌<◌, zero-le}
+use Prim.Native.Nat.{ℕ, zero, suc, ◌+◌, ◌*◌, ◌-◌, ◌%◌, ◌^◌, ◌≤◌, ◌<◌, zero-le}
 use native.Mathlib.Nat.{suc-ne-zero, suc_inj, mod-one, mod-eq_of_lt, add_assoc, add_comm, add-zero, le_refl, le_trans}
 use native.Mathlib.Omega.{arith}
 use borrow.Author.Tests.{eq-eqb}

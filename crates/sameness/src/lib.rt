@@ -1,4 +1,6 @@
 // Sameness of forms: whether two forms have equal values modulo 2^w at every whole-number point, whatever their supports, orders and degrees.
+#![tactic(auto)]
+
 ghost use Rattle.std.specs.Prelude.{◌≡◌, true, ◌&&◌, ◌≤◌, length};
 ghost use Rattle.meaning.specs.Sameness.{matched};
 ghost use Rattle.meaning.specs.Calls.{same_reply};

@@ -5,7 +5,7 @@ ghost use Rattle.meaning.specs.Sameness.{within};
 ghost use Rattle.sameness.specs.Places.{strides, lookup, lookups};
 
 // What a variable has in a form.
-#[derive(Drop)]
+#[derive(Clone, Copy)]
 struct Partner {
     limit: u8,
     step: u64,

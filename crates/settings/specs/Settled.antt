@@ -3,7 +3,7 @@ use Rattle.std.specs.Prelude.{◌≡◌, Bool, true, false, cond, List, ℕ}
 use Rattle.std.proofs.Common.{sym, ◌∙◌, ap}
 use Rattle.meaning.specs.Replies.{accepted, refused}
 use Rattle.meaning.specs.Boxes.{cells}
-use Rattle.meaning.specs.Settings.{first, settings_number, limited_number, call_number}
+use Rattle.meaning.specs.Settings.{first, settings_number, call_number}
 use Rattle.meaning.specs.Calls.{reply, left}
 use Rattle.answers.specs.declared.Refusal.{Refusal}
 use Rattle.answers.specs.declared.Number.{Number}

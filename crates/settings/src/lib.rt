@@ -1,4 +1,6 @@
 // The settings of a call: the width, the support, the degree and the size of the box, and the lengths of lent tables, in the order in which calls test them.
+#![tactic(auto)]
+
 ghost use Rattle.std.specs.Prelude.{◌≡◌, ◌+◌, min};
 ghost use Rattle.meaning.specs.Boxes.{cells};
 ghost use Rattle.meaning.specs.Settings.{fits_width, limited_number, cube};

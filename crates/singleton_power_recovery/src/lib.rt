@@ -1,5 +1,7 @@
 // Singleton powers: for each variable alone, the others held at 0, the coefficients of its falling factorials without the constant. Each variable's
 // values are recovered as a box of one variable, and the constant is then set to 0.
+#![tactic(auto)]
+
 ghost use Rattle.std.specs.Prelude.{◌≡◌, true, ℕ, ◌*◌, ◌≤◌, ◌<◌, length};
 ghost use Rattle.meaning.specs.Tables.{tabulate};
 ghost use Rattle.meaning.specs.Settings.{fits_width};

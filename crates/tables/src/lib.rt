@@ -1,4 +1,6 @@
 // Whole tables of numbers: copied, set to zero, cut to a width.
+#![tactic(auto)]
+
 ghost use Rattle.std.specs.Prelude.{◌≡◌, cond, eqb, length, ◌%◌, ◌^◌, min};
 ghost use Rattle.meaning.specs.Tables.{tabulate, at};
 

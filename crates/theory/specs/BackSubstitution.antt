@@ -3,7 +3,7 @@
 -- and the elimination has kept the solutions: what succeeds solves the system.
 use Rattle.std.specs.Prelude.{◌≡◌, ◌↔◌, Bool, true, false, ◌&&◌, ◌||◌, cond, T, ltb}
 use Rattle.std.proofs.Math.Path.{refl, sym, ap}
-use Rattle.std.proofs.Common.{ap₂, subst, ◌∙◌, true≢false, not-suc-le-zero, le_refl, le_of_lt, ne_of_gt, zero-mul, zero-add, mul_comm, arith, ltb→lt, lt→ltb, eqb→eq, pow_pos, eq-eqb, ne_eqb}
+use Rattle.std.proofs.Common.{subst, ◌∙◌, true≢false, not-suc-le-zero, le_refl, le_of_lt, ne_of_gt, zero-mul, zero-add, mul_comm, arith, ltb→lt, lt→ltb, eqb→eq, pow_pos, eq-eqb, ne_eqb}
 use Prim.Native.Nat.{ℕ, zero, suc, ◌+◌, ◌*◌, ◌-◌, ◌%◌, ◌^◌, ◌≤◌, ◌<◌}
 use Rattle.std.proofs.Math.Dec.{eqb}
 use Rattle.meaning.specs.Sums.{sum}

@@ -82,7 +82,7 @@ in_map e (x ∷ xs) (there i) =
     let h = in_map e xs i in
     record { tail = h.tail; inside = there h.inside; whole = h.whole }
 
-in-map_of : (e : ℕ) {xs : List (List ℕ)} {h : List ℕ} → In h xs → In (e ∷ h) (map (e ∷◌) xs)
+in-map_of : (e : ℕ) {h : List ℕ} {xs : List (List ℕ)} → In h xs → In (e ∷ h) (map (e ∷◌) xs)
 in-map_of e (here d) = here (ap (e ∷◌) d)
 in-map_of e (there i) = there (in-map_of e i)
 

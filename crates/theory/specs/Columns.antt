@@ -33,6 +33,7 @@ pub data Ordered : List (List ℕ) → Type 0 where
 
 -- what comes before all comes before each
 pub before-in : {es f : List ℕ} {fs : List (List ℕ)} → BeforeAll es fs → In f fs → T (before es f)
+before-in {es = es} {f = f} before_none i = elim i [ ]
 before-in {es} (before_more t b) (here e) = rw e t
 before-in (before_more t b) (there i) = before-in b i
 

@@ -136,6 +136,8 @@ module _ {n : ℕ} where
     where
       zeros : (n : ℕ) (es : List ℕ) → Within (replicate n 0) es → replicate n 0 ≡ es
       zeros zero [] none = refl
+      zeros zero (e ∷ es) w = elim w [ ]
+      zeros (suc n) [] w = elim w [ ]
       zeros (suc n) (e ∷ es) (next q w) = ap₂ ◌∷◌ (omega arith) (zeros n es w)
   scattered-picked (d ∷ ds) es empty l w = absurd (suc-ne-zero (length ds) l)
   scattered-picked [] es (more {ps = ps} h a r) l w = absurd (suc-ne-zero (length ps) (sym l))

@@ -1,7 +1,7 @@
 -- The twos and the odd part of a number, and Legendre's count of the twos in a factorial.
 -- Every number above 0 is a power of two times an odd number in one way (`split`, `twos_eq`, `odd_part-eq`), so both are found by writing a
 -- number so. Legendre's count goes by induction: from k to k + 1 the ones of k and the twos of k + 1 change places (`ones_suc`).
-use Rattle.std.specs.Prelude.{◌≡◌, refl, ◌⊎◌, ℕ, zero, suc, ◌+◌, ◌*◌, ◌-◌, ◌/◌, ◌%◌, ◌^◌, ◌<◌}
+use Rattle.std.specs.Prelude.{◌≡◌, refl, ◌⊎◌, ℕ, zero, suc, ◌+◌, ◌*◌, ◌/◌, ◌%◌, ◌^◌, ◌<◌}
 use Rattle.std.proofs.Common.{sym, ◌∙◌, ap, ap₂, inl, inr, ⊎_elim, mul_assoc, one-mul, le_of_suc-le-suc, not-suc-le-zero, le-mul_of_pos_right, zero-lt-suc, mod-lt, add_comm, mul_comm, lt_of_lt_of_le, lt_of_not-le, lt_irrefl, add-one, arith, pow_pos, pow-add, pow_mono}
 use Rattle.std.proofs.Math.Nat.{pow-succ', mul-div_cancel_left, mul-mul-mul_comm}
 use Rattle.std.proofs.Math.Arith.{bin_ind}

@@ -1,1 +1,2 @@
 // Laws about the definitions of `meaning`, in specs/. There is no code here.
+#![tactic(auto)]

@@ -1,5 +1,5 @@
 -- One column eliminated, and the columns one after the other: tables that show a state then show the next one.
-use Rattle.std.proofs.Common.{◌≡◌, ℕ, zero, suc, ◌+◌, ◌*◌, ◌<◌, ◌≤◌, Bool, true, false, cond, ◌||◌, ltb, ◌⊎◌, List, length, get_or, set, sym, refl, ap, ◌∙◌, subst, ap₂, ⊎_elim, zero-le, le_refl, lt_irrefl, ne_of_lt, add-one, arith, get_or-set_other, get_or-set_same, ne_eqb}
+use Rattle.std.proofs.Common.{◌≡◌, ℕ, zero, suc, ◌+◌, ◌*◌, ◌<◌, ◌≤◌, Bool, true, false, cond, ◌||◌, ltb, List, length, get_or, set, sym, refl, ap, ◌∙◌, subst, ap₂, ⊎_elim, zero-le, le_refl, lt_irrefl, ne_of_lt, add-one, arith, get_or-set_other, get_or-set_same, ne_eqb}
 use Rattle.meaning.specs.Tables.{at}
 use Rattle.meaning.specs.Factorials.{twos_of}
 use Rattle.meaning.specs.Elimination.{State, Lowest, lowest, height, chosen, step, forward}

@@ -1,5 +1,5 @@
 -- Back-substitution on tables: tests of all rows and columns, a column's rest and value, and the columns one after the other, last first.
-use Rattle.std.proofs.Common.{◌≡◌, ℕ, suc, ◌+◌, ◌-◌, ◌*◌, ◌/◌, ◌%◌, ◌^◌, ◌<◌, ◌≤◌, min, Bool, true, false, T, eqb, ◌⊎◌, List, length, set, sym, refl, ap, ◌∙◌, subst, ap₂, ⊎_elim, zero-le, le_trans, le_of_eq, le_refl, le_of_suc-le-suc, mul-le-mul_right, suc-mul, eq-or-lt_of_le, ne_of_gt, add-one, arith, get_or-set_other, get_or-set_same, pow_pos, eq-eqb, ne_eqb}
+use Rattle.std.proofs.Common.{◌≡◌, ℕ, suc, ◌+◌, ◌-◌, ◌*◌, ◌/◌, ◌%◌, ◌^◌, ◌<◌, ◌≤◌, min, Bool, true, false, T, eqb, List, length, set, sym, refl, ap, ◌∙◌, subst, ap₂, ⊎_elim, zero-le, le_trans, le_of_eq, le_refl, le_of_suc-le-suc, mul-le-mul_right, suc-mul, eq-or-lt_of_le, ne_of_gt, add-one, arith, get_or-set_other, get_or-set_same, pow_pos, eq-eqb, ne_eqb}
 use native.Mathlib.Nat.{min-eq_left}
 use lib.ListN.{get_or-eq_default}
 use Rattle.meaning.specs.Tables.{at}

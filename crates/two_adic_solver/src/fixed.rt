@@ -11,7 +11,7 @@ use crate::{fixed_elimination, fixed_substitution, rows, substitution};
 use answers::{Outcome, Refusal};
 
 // The outcome, with the answer or zeros beside a refusal.
-#[derive(Drop)]
+#[derive(Clone, Copy)]
 pub struct Fixed {
     pub outcome: Outcome,
     pub answer: [u64; 4],

@@ -1,4 +1,6 @@
 // Linear systems modulo 2^w by elimination: the solver on lent tables, and the four by four solver on arrays by value.
+#![tactic(auto)]
+
 mod elimination;
 pub mod fixed;
 mod fixed_elimination;

@@ -23,8 +23,9 @@ fn solve_small(
     solver::solve_with(matrix, right, &mut used, columns, bitwidth, answer)
 }
 
-// With marks for 65,536 rows. It is for systems that are not small, so that its call of itself is never made: that call keeps the compiler from laying the
-// marks out in the frame of the small ones.
+// With marks for 65,536 rows. It is for systems that are not small, so that its call of itself is never made: that call, and the attribute, keep the compiler
+// from laying the marks out in the frame of the small ones.
+#[inline(never)]
 fn solve_tall(
     matrix: &mut [u64],
     right: &mut [u64],

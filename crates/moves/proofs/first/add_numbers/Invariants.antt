@@ -1,0 +1,10 @@
+-- The loop: the lines before that of place i have the products added; the measure is the places left.
+use Rattle.std.proofs.Common.{◌+◌, ◌-◌, ◌^◌, ◌≤◌, length}
+use Rattle.moves.specs.NodeLines.{Numbers}
+use Rattle.moves.proofs.first.add_numbers.Given as goal
+
+abbrev pub invariant-loop-i : goal.invariant-loop-i
+invariant-loop-i l = (l.i ≤ length l.part + l.degree) × Numbers (2 ^ 64) l.degree l.place l.near l.far l.initial.part l.part l.i
+
+abbrev pub decreases-loop-i : goal.decreases-loop-i
+decreases-loop-i l = length l.initial.part - l.i

@@ -1,0 +1,24 @@
+-- The loop keeps: the count times the cells of the variables that are left is the cells of the box, and the count is at most one above the limit.
+use Prim.Native.Nat.{◌+◌}
+use native.Mathlib.Nat.{min-eq_left, min-eq_right}
+use mathlib.Core.Path.{◌∙◌, sym}
+use native.Mathlib.Omega.{arith}
+use Rattle.theory.specs.CountedCells.{counted_next, counted-end, counted-le}
+use Rattle.settings.proofs.count_cells.Goals as goal
+
+pub returns-then-most-count : goal.returns-then-most-count
+returns-then-most-count c =
+    let k = c.args in
+    let next = counted_next k.degrees.now c.loop-i.count c.loop-i.i c.loop-i.invariant.0 c.loop-i-test.true in
+    sym (min-eq_right (omega (arith, c.if-most-count.true, counted-le k.degrees.now _ (c.loop-i.i + 1) next)))
+
+pub loop-i-preserved : goal.loop-i-preserved
+loop-i-preserved c =
+    let k = c.args in
+    (counted_next k.degrees.now c.loop-i.count c.loop-i.i c.loop-i.invariant.0 c.loop-i-test.true, omega (arith, c.if-most-count.false))
+
+pub returns : goal.returns
+returns c =
+    let k = c.args in
+    let all = counted-end k.degrees.now c.loop-i.count c.loop-i.i c.loop-i.invariant.0 c.loop-i-test.false in
+    sym (min-eq_left (omega (arith, all)) ∙ all)

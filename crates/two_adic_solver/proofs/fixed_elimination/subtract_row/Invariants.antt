@@ -1,0 +1,10 @@
+-- The loop: from `column` up to k the target row is less q times the source row, and all other entries are as they were; the measure is 4 - k.
+use Rattle.std.proofs.Common.{◌-◌}
+use Rattle.two_adic_solver.proofs.FixedLaws.{RowLess}
+use Rattle.two_adic_solver.proofs.fixed_elimination.subtract_row.Given as goal
+
+abbrev pub invariant-loop-k : goal.invariant-loop-k
+invariant-loop-k l = RowLess l.bitwidth l.q l.source l.target l.column l.initial.matrix l.matrix l.k
+
+abbrev pub decreases-loop-k : goal.decreases-loop-k
+decreases-loop-k l = 4 - l.k
