@@ -19,7 +19,7 @@ echo build >> "$(dirname "$0")/builds"
 sleep 1
 %s
 """
-BUILD = 'mkdir -p target/bin && cp "$(dirname "$0")/program" target/bin/bench'
+BUILD = 'mkdir -p out && cp "$(dirname "$0")/program" out/bench'
 
 
 def failures(runner):
@@ -109,6 +109,7 @@ class Checkout:
         self.folder = tempfile.TemporaryDirectory(prefix='bench-script-')
         self.root, self.tools = os.path.join(self.folder.name, 'root'), os.path.join(self.folder.name, 'tools')
         os.makedirs(os.path.join(self.root, 'crates', 'one', 'src'))
+        os.makedirs(os.path.join(self.root, 'crates', 'bench'))
         os.makedirs(self.tools)
         shutil.copy(os.path.join(ROOT, 'bench'), self.root)
         shutil.copy(PROGRAM, os.path.join(self.tools, 'program'))
@@ -154,10 +155,9 @@ def builds(runner):
     count(runner, 'two of them say that they wait', sum(b'waiting for it' in end[1] for end in ends) == 2)
     time.sleep(0.01)
     checkout.source()
-    checkout.tool('touch', '#!/bin/sh\nexit 1\n')
-    count(runner, 'a source is newer, and the program cannot be touched', refused_to_run(checkout.start()))
-    checkout = Checkout(build=BUILD + ' && touch -d 2000-01-01 target/bin/bench')
-    checkout.tool('touch', '#!/bin/sh\n[ "$1" = -c ] || exec /usr/bin/touch "$@"\n')
+    checkout.tool('mv', '#!/bin/sh\nexit 1\n')
+    count(runner, 'a source is newer, and the program cannot be put in its place', refused_to_run(checkout.start()))
+    checkout = Checkout(build=BUILD + ' && touch -d 2100-01-01 ../one/src/lib.rt')
     count(runner, 'the program stays older than a source', refused_to_run(checkout.start()))
     checkout = Checkout()
     checkout.start().communicate()

@@ -1,15 +1,18 @@
 -- From the answers of the calls to the text of the layout.
-use mathlib.Core.Path.{◌≡◌, refl, sym, ◌∙◌, ap, ap₂}
+use mathlib.Core.Path.{◌≡◌, refl, sym, ◌∙◌, ap, ap₂, subst}
 use mathlib.Core.Bool.{Bool, true, false, ◌&&◌, cond}
-use mathlib.Core.List.{List, [], ◌++◌}
+use mathlib.Core.List.{List, [], ◌++◌, append-nil}
 use mathlib.Core.Logic.{⊎_elim}
-use Prim.Native.Nat.{ℕ, zero, suc, ◌+◌, ◌-◌, ◌≤◌, ◌<◌, min}
+use Prim.Native.Nat.{ℕ, zero, suc, ◌+◌, ◌-◌, ◌≤◌, min}
 use native.Mathlib.Nat.{suc-ne-zero}
 use native.Mathlib.Omega.{arith}
 use borrow.Author.Tests.{eq-eqb, ne_eqb}
 use lib.Dec.{eqb}
 use lib.ListN.{length, take, drop, length-append}
 use lib.Seq.{sets, sets-eq, take_at, length-take-le}
+use Rattle.std.specs.declared.option.Option.{Option}
+use Rattle.std.specs.Io.KnownBytes.{Consumes, Keeps}
+use Rattle.std.proofs.KnownBytes.{Consumes-nil, Consumes-trans, Consumes-kept}
 use Rattle.meaning.specs.Tables.{tabulate}
 use Rattle.meaning.specs.Boxes.{cells}
 use Rattle.meaning.specs.Replies.{Reply, told}
@@ -27,7 +30,7 @@ use Rattle.bench_file.specs.Steps.{State, state, none_read, fed}
 use Rattle.bench_file.specs.StepLaws.{fed-append}
 use Rattle.bench_file.specs.HeadLines.{eq_or_ne}
 use Rattle.bench_file.specs.declared.reader.Reader.{Reader}
-use Rattle.bench.specs.Answers.{Led, asked, text_for, recovered_text, number_of, text_of}
+use Rattle.bench.specs.Answers.{LedFrom, asked, text_for, recovered_text, number_of, text_of}
 
 -- the number in a text: 0, or not
 pub text_for_zero : (n : ℕ) (ds cs : List ℕ) → n ≡ 0 → text_for n ds cs ≡ accepted_text ds cs
@@ -250,15 +253,29 @@ module _ (h : Head) (t : List ℕ) where
 
 -- ---- pieces of the input
 
-pub led_none : (t : List ℕ) (r : Reader) → r ≡ none_read → Led t r t longest_file
+pub led_none : (a : Option (List ℕ)) (t : List ℕ) (r : Reader) → r ≡ none_read → LedFrom a a t r t longest_file
 unfolding fed
-led_none t r e = record { bytes = []; led = ap (λ (x : Reader). state x t) e; unread = refl }
+led_none a t r e = (record { bytes = []; led = ap (λ (x : Reader). state x t) e; unread = refl }, Consumes-nil a)
 
-pub led_next : (t₀ : List ℕ) (r : Reader) (t : List ℕ) (left : ℕ) (piece : List ℕ) (q : Reader) (u : List ℕ) (left' : ℕ) → Led t₀ r t left
-    → state q u ≡ fed (state r t) piece → left' ≡ left - length piece → Led t₀ q u left'
-led_next t₀ r t left piece q u left' l e f =
-    record {
-      bytes = l.bytes ++ piece;
-      led = e ∙ ap (λ (s : State). fed s piece) l.led ∙ sym (fed-append (state none_read t₀) l.bytes piece);
-      unread = omega (arith, f, l.unread, length-append l.bytes piece);
-    }
+pub led_next : (a b c : Option (List ℕ)) (t₀ : List ℕ) (r : Reader) (t : List ℕ) (left : ℕ) (piece : List ℕ) (q : Reader) (u : List ℕ) (left' : ℕ)
+    → LedFrom a b t₀ r t left → Consumes b c piece → state q u ≡ fed (state r t) piece → left' ≡ left - length piece → LedFrom a c t₀ q u left'
+led_next a b c t₀ r t left piece q u left' l k e f = (
+  record {
+    bytes = l.0.bytes ++ piece;
+    led = e ∙ ap (λ (s : State). fed s piece) l.0.led ∙ sym (fed-append (state none_read t₀) l.0.bytes piece);
+    unread = omega (arith, f, l.0.unread, length-append l.0.bytes piece);
+  },
+  Consumes-trans a b c l.0.bytes piece l.1 k,
+)
+
+-- a read that gave no bytes, at the end or with an error
+pub led_end : (a b c : Option (List ℕ)) (t₀ : List ℕ) (r : Reader) (t : List ℕ) (left : ℕ) (n : ℕ) (buf : List ℕ) → LedFrom a b t₀ r t left → n ≡ 0
+    → Consumes b c (take n buf) → LedFrom a c t₀ r t left
+led_end a b c t₀ r t left n buf l e k = (
+  l.0,
+  subst (λ (bs : List ℕ). Consumes a c bs) (ap (λ (n : ℕ). l.0.bytes ++ take n buf) e ∙ append-nil l.0.bytes)
+      (Consumes-trans a b c l.0.bytes (take n buf) l.1 k),
+)
+
+pub led_failed : (a b c : Option (List ℕ)) (t₀ : List ℕ) (r : Reader) (t : List ℕ) (left : ℕ) → LedFrom a b t₀ r t left → Keeps b c → LedFrom a c t₀ r t left
+led_failed a b c t₀ r t left l k = (l.0, Consumes-kept a b c l.0.bytes l.1 k)

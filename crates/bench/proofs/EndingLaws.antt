@@ -1,10 +1,14 @@
 -- From the reader and the text to what becomes of the input.
-use mathlib.Core.Path.{◌≡◌, refl, sym, ◌∙◌, ap, subst}
-use mathlib.Core.List.{List, [], append-nil}
-use Prim.Native.Nat.{ℕ, ◌≤◌}
+use mathlib.Core.Path.{◌≡◌, refl, sym, ◌∙◌, ap, ap₂, subst}
+use mathlib.Core.List.{List, [], ◌++◌, append-nil}
+use Prim.Native.Nat.{ℕ, ◌+◌, ◌≤◌}
 use native.Mathlib.Omega.{arith}
-use lib.ListN.{length, replicate}
-use lib.Seq.{length-sets}
+use lib.ListN.{length, take, drop, replicate}
+use lib.Seq.{sets-eq, take_at, length-sets}
+use Rattle.std.specs.Prelude.{None, Some, IfSome}
+use Rattle.std.specs.declared.option.Option.{Option}
+use Rattle.std.specs.Io.KnownBytes.{Consumes, Appends, IsAtEnd}
+use Rattle.std.proofs.KnownBytes.{Consumes-whole}
 use Rattle.bench_file.specs.Layout.{Content, Says, ill_head, ill_values, whole, bench_text}
 use Rattle.bench_file.specs.Steps.{State, state, none_read, fed, head_of, reading_of}
 use Rattle.bench_file.specs.Reading.{ReadAs, read_ill_head, read_ill_values, read_whole}
@@ -17,7 +21,7 @@ use Rattle.bench_file.specs.declared.reader.Stage.{Stage}
 use Rattle.bench.specs.Answers.{FedBy, Led, SaysText, LeavesText}
 use Rattle.bench.proofs.RoomLaws.{text_room_lem}
 use Rattle.bench.specs.GridAnswers.{answering}
-use Rattle.bench.specs.Endings.{TextOf, WholeText, IllHeadText, Answered}
+use Rattle.bench.specs.Endings.{TextOf, WholeText, IllHeadText, Answered, SourceText, Printed}
 use Rattle.bench.specs.declared.End.{End}
 
 -- all bytes say something
@@ -32,6 +36,12 @@ said_of t₀ bs = go (fed (state none_read t₀) bs) (reading_of (fed (state non
     go s Reading.IllHead (read_ill_head p) = record { content = ill_head; says = p }
     go s Reading.IllValues (read_ill_values p) = record { content = ill_values (head_of s.reader); says = p }
     go s Reading.Whole (read_whole vs p c v) = record { content = whole (head_of s.reader) vs; says = p }
+
+-- what holds of some bytes and any that follow them holds of all that a source had which gave these bytes
+given_front : (a b : Option (List ℕ)) (bs : List ℕ) (P : List ℕ → Type 0) → Consumes a b bs → ((more : List ℕ) → P (bs ++ more)) → IfSome a P
+given_front None b bs P k h = tt
+given_front (Some x) None bs P k h = absurd k
+given_front (Some x) (Some y) bs P k h = subst P (sym k) (h y)
 
 -- what is printed where the bytes say this
 module _ (t₀ : List ℕ) (zeros : t₀ ≡ replicate 4096 0) (r : Reader) (t out left : List ℕ) (w : Written) (unread : ℕ) (led : Led t₀ r t unread)
@@ -68,14 +78,19 @@ module _ (t₀ : List ℕ) (zeros : t₀ ≡ replicate 4096 0) (r : Reader) (t o
       record { bytes = led.bytes; content = said.content; says = said.says; text = text_of said.content said.says n e }
 
   -- first lines that are ill-formed stay so
+  stays : (unread ≡ 0) × (r.stage ≡ Stage.IllHead) → (more : List ℕ) → Says (led.bytes ++ more) ill_head
+  stays ill = ill_head_stays t₀ led.bytes (ap (λ (s : State). s.reader.stage) (sym led.led) ∙ ill.1)
+
+  ill_text : (unread ≡ 0) × (r.stage ≡ Stage.IllHead) → (n : ℕ) → w ≡ Written.Bytes n → TextOf ill_head n out left
+  ill_text ill n e = text_of ill_head (subst (λ (bs : List ℕ). Says bs ill_head) (append-nil led.bytes) (stays ill [])) n e
+
   ill_head_text : (unread ≡ 0) × (r.stage ≡ Stage.IllHead) → (n : ℕ) → w ≡ Written.Bytes n → IllHeadText n out left
   ill_head_text ill n e =
-      let stays = ill_head_stays t₀ led.bytes (ap (λ (s : State). s.reader.stage) (sym led.led) ∙ ill.1) in
       record {
         bytes = led.bytes;
         enough = omega (arith, ill.0, led.unread);
-        says = stays;
-        text = text_of ill_head (subst (λ (bs : List ℕ). Says bs ill_head) (append-nil led.bytes) (stays [])) n e;
+        says = stays ill;
+        text = ill_text ill n e;
       }
 
   pub answered : (end : End) → (end ≡ End.Failed → ⊥) → (end ≡ End.IllHead → (unread ≡ 0) × (r.stage ≡ Stage.IllHead))
@@ -83,6 +98,24 @@ module _ (t₀ : List ℕ) (zeros : t₀ ≡ replicate 4096 0) (r : Reader) (t o
   answered End.Whole good ill n e = whole_text n e
   answered End.IllHead good ill n e = ill_head_text (ill refl) n e
   answered End.Failed good ill n e = absurd (good refl)
+
+  -- the same of the source's bytes
+  pub source_text : (before after : Option (List ℕ)) → Consumes before after led.bytes → (end : End) → (end ≡ End.Failed → ⊥)
+      → (end ≡ End.IllHead → (unread ≡ 0) × (r.stage ≡ Stage.IllHead)) → (end ≡ End.Whole → IsAtEnd after)
+      → (n : ℕ) → w ≡ Written.Bytes n → SourceText before n out left
+  source_text a b k End.Whole good ill at_end n e =
+      record {
+        content = said.content;
+        says = Consumes-whole a b led.bytes (λ (bs : List ℕ). Says bs said.content) k (at_end refl) said.says;
+        text = text_of said.content said.says n e;
+      }
+  source_text a b k End.IllHead good ill at_end n e =
+      record {
+        content = ill_head;
+        says = given_front a b led.bytes (λ (bs : List ℕ). Says bs ill_head) k (stays (ill refl));
+        text = ill_text (ill refl) n e;
+      }
+  source_text a b k End.Failed good ill at_end n e = absurd (good refl)
 
   pub always_room : w ≡ Written.NoRoom → ⊥
   always_room e =
@@ -100,3 +133,20 @@ module _ (n : ℕ) (out left : List ℕ) (room : length out ≡ 1122347) where
   text_inside End.Whole good a = inside a.content a.text
   text_inside End.IllHead good a = inside ill_head a.text
   text_inside End.Failed good a = absurd (good refl)
+
+-- the text is what is written of the buffer
+front : (x : Content) (n : ℕ) (out left : List ℕ) → length out ≡ 1122347 → TextOf x n out left → take n left ≡ bench_text x
+front x n out left room a =
+    ap₂ take a.size a.begins
+    ∙ ap (take (length a.text)) (sets-eq a.text out 0 (omega (arith, text_room_lem x, ap length a.layout, room)))
+    ∙ take_at a.text (drop (0 + length a.text) out) (length a.text) refl
+    ∙ a.layout
+
+pub printed_lem : (known before after : Option (List ℕ)) (n : ℕ) (out left : List ℕ) → length out ≡ 1122347 → SourceText known n out left
+    → Appends before after (take n left) → Printed known before after
+printed_lem known before after n out left room s k =
+    record {
+      content = s.content;
+      says = s.says;
+      appended = subst (λ (bs : List ℕ). Appends before after bs) (front s.content n out left room s.text) k;
+    }

@@ -4,4 +4,3 @@ pub mod AnswerLaws
 pub mod RoomLaws
 pub mod EndingLaws
 pub mod InputLaws
-pub mod Variants

@@ -1,5 +1,7 @@
 -- What the program prints, from the parts that the reader hands over.
 use Rattle.std.specs.Prelude.{◌≡◌, ℕ, ◌-◌, Bool, cond, List, eqb, length, take, drop, replicate}
+use Rattle.std.specs.declared.option.Option.{Option}
+use Rattle.std.specs.Io.KnownBytes.{Consumes}
 use Rattle.meaning.specs.Tables.{at}
 use Rattle.meaning.specs.Boxes.{cells}
 use Rattle.meaning.specs.Recovery.{accepts, answer}
@@ -49,6 +51,10 @@ pub record Led (t₀ : List ℕ) (r : Reader) (t : List ℕ) (left : ℕ) : Type
   pub bytes : List ℕ
   pub led : state r t ≡ fed (state none_read t₀) bytes
   pub unread : left ≡ longest_file - length bytes
+
+-- the same of a source of bytes, which gave these: `before` and `after` are what it had left, where it says so
+abbrev pub LedFrom : Option (List ℕ) → Option (List ℕ) → List ℕ → Reader → List ℕ → ℕ → Type 0
+LedFrom before after t₀ r t left = (l : Led t₀ r t left) × Consumes before after l.bytes
 
 -- what is printed of the bytes that lead here is what the layout says of them: how many bytes of the buffer `out` it takes
 abbrev pub SaysText : Reader → List ℕ → List ℕ → Written → Type 0

@@ -1,5 +1,7 @@
 -- What becomes of an input.
-use Rattle.std.specs.Prelude.{◌≡◌, ℕ, ◌≤◌, List, ◌++◌, length}
+use Rattle.std.specs.Prelude.{◌≡◌, ℕ, ◌≤◌, List, ◌++◌, length, IfSome}
+use Rattle.std.specs.declared.option.Option.{Option}
+use Rattle.std.specs.Io.KnownBytes.{Appends}
 use Rattle.std.proofs.lemmas.List.Edits.{sets}
 use Rattle.bench_file.specs.Layout.{longest_file, Content, ill_head, Says, bench_text}
 use Rattle.bench.specs.GridAnswers.{Answering}
@@ -32,3 +34,15 @@ abbrev pub Answered : End → ℕ → List ℕ → List ℕ → Type 0
 Answered End.Whole n out left = WholeText n out left
 Answered End.IllHead n out left = IllHeadText n out left
 Answered End.Failed n out left = left ≡ out
+
+-- the buffer begins with the n bytes of what is printed of a source's bytes, where these are known
+pub record SourceText (known : Option (List ℕ)) (n : ℕ) (out left : List ℕ) : Type 0 where
+  pub content : Content
+  pub says : IfSome known (λ bs. Says bs content)
+  pub text : TextOf content n out left
+
+-- a sink that held `before` holds `after`: what is printed of a source's bytes was appended, where these are known
+pub record Printed (known before after : Option (List ℕ)) : Type 0 where
+  pub content : Content
+  pub says : IfSome known (λ bs. Says bs content)
+  pub appended : Appends before after (bench_text content)

@@ -13,7 +13,7 @@ use Rattle.meaning.specs.Settings.{fits_width, first}
 use Rattle.demand3.specs.Tests.{suc-zero, first_not_6, not_6}
 use Rattle.demand3.specs.Settings.{CallPasses, passing_iff, passing_not_6, settings_not_6}
 use Rattle.demand3.specs.Promises.{Decides}
-use Rattle.demand3.specs.Decided.{decides, accepted-accepts}
+use Rattle.demand3.proofs.Decided.{decides, accepted-accepts}
 use Rattle.bench_file.specs.Layout.{Head, Content, ill_head, ill_values, whole, degrees_of, head_number, bench_number, accepted_text, refused_text, bench_text}
 
 -- the text of a grid: the coefficients where the number is 0, else the number alone; and number and coefficients decide, where the settings of the first two

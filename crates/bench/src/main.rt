@@ -1,22 +1,31 @@
 // The bench program: reads a grid of values from standard input, and prints the coefficients of its polynomial or the number of a refusal.
 // It only reads and writes: `bench_file` has the layout, `answer` the way from what was read to what is printed.
-ghost use Rattle.std.specs.Prelude.{length, true, ◌↔◌, ◌≡◌, ◌-◌};
+#![tactic(auto)]
+
+ghost use Rattle.std.specs.Prelude.{length, true, ◌↔◌, ◌≡◌, ◌-◌, ◌≢◌, OnOk, Err};
+ghost use Rattle.std.specs.Io.KnownBytes.{IsAtEnd};
+ghost use Rattle.std.specs.IoError.{error_kind};
+ghost use Rattle.std.specs.declared.io.ErrorKind.{ErrorKind};
 ghost use Rattle.bench_file.specs.declared.reader.Stage.{Stage};
 ghost use Rattle.bench.specs.declared.End.{End};
-ghost use Rattle.bench.specs.Answers.{Led};
-ghost use Rattle.bench.specs.Endings.{Answered};
+ghost use Rattle.bench.specs.declared.Failure.{Failure};
+ghost use Rattle.bench.specs.Answers.{LedFrom};
+ghost use Rattle.bench.specs.Endings.{Answered, SourceText, Printed};
 
 mod answer;
 
 use bench_file::answer::Written;
 use bench_file::reader::{Reader, Stage};
+use std::io;
+use std::io::{ErrorKind, Read, Write};
+use std::process::ExitCode;
 
 // Bytes that are read also where the first two lines are ill-formed, so that a program that writes a grid file is not cut off: no file with at most
 // 4,096 values is longer. These are 85 of the first line, 421 of a second with 20 numbers, and 4,096 times 22.
 const LONGEST_FILE: usize = 90618;
 
 // How the reading ended.
-#[derive(Drop)]
+#[derive(Clone, Copy)]
 enum End {
     // A read found no more.
     Whole,
@@ -26,7 +35,7 @@ enum End {
     Failed,
 }
 
-#[derive(Drop)]
+#[derive(Clone, Copy)]
 struct Input {
     reader: Reader,
     end: End,
@@ -57,18 +66,24 @@ fn decided(stage: Stage, left: usize) -> bool
     false
 }
 
-// Reads standard input and feeds it to a reader, whose values go into the table: to its end, or until it is decided by its first two lines. A proved loop
-// has to end, and nothing says that an input does, so the turns are counted down from a number that no run uses up.
-fn read_input(values: &mut [u64]) -> Input
-    ensures led { Led values.old result.reader values.new result.left }
-    ensures ill { result.end ≡ End.IllHead → (result.left ≡ 0) × (result.reader.stage ≡ Stage.IllHead) }
+// 65,536 zeros, into which a piece of the input is read.
+fn piece_room() -> [u8; 65536]
+    ensures { 65536 ≡ length result }
 {
-    let mut piece = io::large_buffer();
+    [0u8; 65536]
+}
+
+// Reads the source and feeds it to a reader, whose values go into the table: to its end, or until it is decided by its first two lines. A proved loop
+// has to end, and nothing says that an input does, so there is a number of turns that no run uses up.
+fn read_input<R: Read>(source: &mut R, values: &mut [u64]) -> Input
+    ensures led { LedFrom (R.remaining source.old) (R.remaining source.new) values.old result.reader values.new result.left }
+    ensures ill { result.end ≡ End.IllHead → (result.left ≡ 0) × (result.reader.stage ≡ Stage.IllHead) }
+    ensures whole { result.end ≡ End.Whole → IsAtEnd (R.remaining source.new) }
+{
+    let mut piece = piece_room();
     let mut reader = Reader::new();
     let mut left = LONGEST_FILE;
-    let mut turns = 0xffff_ffff_ffff_ffffu64;
-    while 0 < turns {
-        turns -= 1;
+    for _ in 0..u64::MAX {
         let stage = reader.stage;
         if decided(stage, left) {
             return Input {
@@ -77,24 +92,26 @@ fn read_input(values: &mut [u64]) -> Input
                 left: left,
             };
         }
-        let got = libc::read(libc::STDIN_FILENO, &mut piece);
-        if got < 0 {
-            return Input {
-                reader: reader,
-                end: End::Failed,
-                left: left,
-            };
+        match source.read(&mut piece) {
+            Ok(0) => {
+                return Input {
+                    reader: reader,
+                    end: End::Whole,
+                    left: left,
+                };
+            }
+            Ok(size) => {
+                reader = reader.feed(&piece[..size], values);
+                left = left_after(left, size);
+            }
+            Err(_) => {
+                return Input {
+                    reader: reader,
+                    end: End::Failed,
+                    left: left,
+                };
+            }
         }
-        if got == 0 {
-            return Input {
-                reader: reader,
-                end: End::Whole,
-                left: left,
-            };
-        }
-        let size = io::count(got, &piece);
-        reader = reader.feed(&piece[..size], values);
-        left = left_after(left, size);
     }
     Input {
         reader: reader,
@@ -110,30 +127,21 @@ fn text_room() -> [u8; 1122347]
     [0u8; 1122347]
 }
 
-// Prints a text, or says on standard error that it could not be printed.
-fn print(text: &[u8]) {
-    if !io::write_all(libc::STDOUT_FILENO, text) {
-        io::write_all(
-            libc::STDERR_FILENO,
-            b"bench: the answer could not be written\n",
-        );
-    }
-}
-
 // How the reading ended, and the size of the answer; nothing is answered where a read failed.
-#[derive(Drop)]
+#[derive(Clone, Copy)]
 struct Ending {
     end: End,
     size: usize,
 }
 
-// Reads standard input and writes its answer to the buffer.
-fn answer_input(out: &mut [u8]) -> Ending
+// Reads the source and writes its answer to the buffer.
+fn answer_input<R: Read>(source: &mut R, out: &mut [u8]) -> Ending
     requires { length out.old ≡ 1122347 }
-    ensures { Answered result.end result.size out.old out.new }
+    ensures answered { Answered result.end result.size out.old out.new }
+    ensures of_source { (result.end ≡ End.Failed → ⊥) → SourceText (R.remaining source.old) result.size out.old out.new }
 {
     let mut values = answer::cell_room();
-    let input = read_input(&mut values);
+    let input = read_input(source, &mut values);
     let end = input.end;
     if let End::Failed = end {
         return Ending {
@@ -154,17 +162,64 @@ fn answer_input(out: &mut [u8]) -> Ending
     }
 }
 
-fn main() {
+// What can fail.
+#[derive(Clone, Copy)]
+enum Failure {
+    // The source could not be read to its end.
+    NotRead,
+    // Nobody reads the answer.
+    NotWanted,
+    // The answer could not be written.
+    NotWritten,
+}
+
+// Why a write failed.
+fn failure_of(error: io::Error) -> Failure
+    ensures wanted { (result ≡ Failure.NotWanted) ↔ (error_kind error ≡ ErrorKind.BrokenPipe) }
+    ensures write { result ≢ Failure.NotRead }
+{
+    if let ErrorKind::BrokenPipe = error.kind() {
+        return Failure::NotWanted;
+    }
+    Failure::NotWritten
+}
+
+// Reads the source and writes its answer to the sink, once.
+fn answer_file<R: Read, W: Write>(source: &mut R, sink: &mut W) -> Result<(), Failure>
+    ensures printed { OnOk result (Printed (R.remaining source.old) (W.contents sink.old) (W.contents sink.new)) }
+    ensures kept { result ≡ Err Failure.NotRead → sink.new ≡ sink.old }
+{
     let mut out = text_room();
-    let ending = answer_input(&mut out);
+    let ending = answer_input(source, &mut out);
     let end = ending.end;
     if let End::Failed = end {
-        io::write_all(
-            libc::STDERR_FILENO,
-            b"bench: standard input could not be read to its end\n",
-        );
-        return;
+        return Err(Failure::NotRead);
     }
     let size = ending.size;
-    print(&out[..size]);
+    match sink.write_all(&out[..size]) {
+        Ok(()) => Ok(()),
+        Err(error) => Err(failure_of(error)),
+    }
+}
+
+// What is said on standard error, and the exit status is then 1. Where nobody reads the answer nothing is said, and the status is 141, which shells give a
+// program that a closed pipe ended.
+fn report<E: Eprint>(rt: &E, failure: Failure) -> ExitCode {
+    let said = match failure {
+        Failure::NotRead => "bench: standard input could not be read to its end",
+        Failure::NotWanted => return ExitCode::from(141),
+        Failure::NotWritten => "bench: the answer could not be written",
+    };
+    let _ = rt.eprintln(said);
+    ExitCode::FAILURE
+}
+
+// Reads standard input and prints its answer.
+fn main(rt: HostRuntime) -> ExitCode {
+    let mut stdin = rt.stdin();
+    let mut stdout = rt.stdout();
+    match answer_file(&mut stdin, &mut stdout) {
+        Ok(()) => ExitCode::SUCCESS,
+        Err(failure) => report(&rt, failure),
+    }
 }

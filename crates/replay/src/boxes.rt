@@ -3,6 +3,8 @@
 // variables. The number of the answer and the table that is left are printed.
 use crate::print;
 use answers::{Outcome, Refusal};
+use std::io;
+use std::io::Write;
 
 // The call that OP names.
 fn call(
@@ -31,7 +33,15 @@ fn call(
 }
 
 // A case on its tables.
-fn run(op: u64, width: u64, degree: u64, given: &[u64], support: &[u64], out: &mut [u64]) {
+fn run<W: Write>(
+    sink: &mut W,
+    op: u64,
+    width: u64,
+    degree: u64,
+    given: &[u64],
+    support: &[u64],
+    out: &mut [u64],
+) -> io::Result<()> {
     let outcome = call(
         op,
         given,
@@ -40,34 +50,40 @@ fn run(op: u64, width: u64, degree: u64, given: &[u64], support: &[u64], out: &m
         print::low8(degree),
         out,
     );
-    print::number(answers::outcome_code(outcome) as u64);
-    print::table(out);
-    print::line_end();
+    print::number(sink, answers::outcome_code(outcome) as u64)?;
+    print::table(sink, out)?;
+    print::line_end(sink)
 }
 
 // A whole line: five numbers, then the cells.
-pub(crate) fn replay_line(numbers: &[u64], variables: &[u64], room: &mut [u64]) {
+pub(crate) fn replay_line<W: Write>(
+    sink: &mut W,
+    numbers: &[u64],
+    variables: &[u64],
+    room: &mut [u64],
+) -> io::Result<()> {
     if numbers.len() < 5 {
-        return;
+        return Ok(());
     }
     let k = (numbers[3] % 64) as usize;
     let size = (numbers[4] % 256) as usize;
     if numbers.len() - 5 < size {
-        return;
+        return Ok(());
     }
     if room.len() < size {
-        return;
+        return Ok(());
     }
     if variables.len() < k {
-        return;
+        return Ok(());
     }
     let end = 5 + size;
     run(
+        sink,
         numbers[0],
         numbers[1],
         numbers[2],
         &numbers[5..end],
         &variables[..k],
         &mut room[..size],
-    );
+    )
 }

@@ -4,6 +4,8 @@
 use crate::print;
 use answers::{Number, Outcome, Refusal};
 use math_utils::Precision;
+use std::io;
+use std::io::Write;
 
 // A Stirling table in the first `size` places of a buffer.
 fn build(first: bool, degree: u8, bitwidth: u32, room: &mut [u64]) -> Outcome {
@@ -67,7 +69,7 @@ fn answer(op: u64, a: u64, b: u64, c: u64) -> Number {
     }
 }
 
-pub(crate) fn replay_leaf(numbers: [u64; 128]) {
-    print::answer(answer(numbers[0], numbers[1], numbers[2], numbers[3]));
-    print::line_end();
+pub(crate) fn replay_leaf<W: Write>(sink: &mut W, numbers: [u64; 128]) -> io::Result<()> {
+    print::answer(sink, answer(numbers[0], numbers[1], numbers[2], numbers[3]))?;
+    print::line_end(sink)
 }

@@ -2,12 +2,18 @@
 // systems.rt 6 to 8, leaves.rt 21 to 33. For each the number of the answer and what it leaves are printed. The file `stdin` beside src/ has the cases,
 // `stdout` what the Rust program answered (tests/oracle/run --sample conversions, recovery, systems and leaves print both; recovery's OP is raised by 3, the
 // leaves' by 20).
+#![tactic(auto)]
+
+ghost use Rattle.std.specs.Prelude.{◌≡◌, ◌≤◌, IfOk, length};
+
 mod boxes;
 mod leaves;
 mod print;
 mod systems;
 mod text;
 
+use std::io;
+use std::io::{Read, Write};
 use text::Line;
 
 fn zeros() -> [u64; 128] {
@@ -20,51 +26,76 @@ fn first_variables() -> [u64; 20] {
     ]
 }
 
-fn answer(numbers: [u64; 128]) {
+fn answer<W: Write>(sink: &mut W, numbers: [u64; 128]) -> io::Result<()> {
     let variables = first_variables();
     let mut room = zeros();
     match numbers[0] {
-        1 => boxes::replay_line(&numbers, &variables, &mut room),
-        2 => boxes::replay_line(&numbers, &variables, &mut room),
-        3 => boxes::replay_line(&numbers, &variables, &mut room),
-        4 => boxes::replay_line(&numbers, &variables, &mut room),
-        5 => boxes::replay_line(&numbers, &variables, &mut room),
-        6 => systems::replay_system(&numbers, &mut room),
-        7 => systems::replay_four(numbers),
-        8 => systems::replay_fit(&numbers, &variables, &mut room),
-        _ => leaves::replay_leaf(numbers),
+        1 => boxes::replay_line(sink, &numbers, &variables, &mut room),
+        2 => boxes::replay_line(sink, &numbers, &variables, &mut room),
+        3 => boxes::replay_line(sink, &numbers, &variables, &mut room),
+        4 => boxes::replay_line(sink, &numbers, &variables, &mut room),
+        5 => boxes::replay_line(sink, &numbers, &variables, &mut room),
+        6 => systems::replay_system(sink, &numbers, &mut room),
+        7 => systems::replay_four(sink, numbers),
+        8 => systems::replay_fit(sink, &numbers, &variables, &mut room),
+        _ => leaves::replay_leaf(sink, numbers),
     }
 }
 
 // One byte of the text: a digit, the end of a line, or what parts two numbers.
-fn read_byte(line: Line, byte: u8) -> Line {
+fn read_byte<W: Write>(sink: &mut W, line: Line, byte: u8) -> io::Result<Line> {
     if byte == b'\n' {
         let whole = line.closed();
         let numbers = whole.numbers;
-        answer(numbers);
-        return Line::empty();
+        answer(sink, numbers)?;
+        return Ok(Line::empty());
     }
     if byte < b'0' {
-        return line.closed();
+        return Ok(line.closed());
     }
     if b'9' < byte {
-        return line.closed();
+        return Ok(line.closed());
     }
-    line.with_digit(byte)
+    Ok(line.with_digit(byte))
 }
 
 // Reads a text of cases.
-fn replay(text: &[u8]) {
+fn replay<W: Write>(sink: &mut W, text: &[u8]) -> io::Result<()> {
     let mut line = Line::empty();
-    let mut i = 0;
-    while i < text.len() {
-        line = read_byte(line, text[i]);
-        i += 1;
+    for byte in text {
+        line = read_byte(sink, line, *byte)?;
     }
+    Ok(())
 }
 
-fn main() {
-    let mut text = io::large_buffer();
-    let size = io::read_full(0, &mut text);
-    replay(&text[..size]);
+// Reads until the text is full or the source ends; how many bytes stand at its start.
+fn read_full<R: Read>(source: &mut R, text: &mut [u8]) -> io::Result<usize>
+    ensures { IfOk result (λ size. size ≤ length text.new) }
+{
+    let mut done = 0;
+    for _ in 0..u64::MAX {
+        if text.len() <= done {
+            break;
+        }
+        let size = source.read(&mut text[done..])?;
+        if size == 0 {
+            break;
+        }
+        done += size;
+    }
+    Ok(done)
+}
+
+fn text_room() -> [u8; 65536]
+    ensures { 65536 ≡ length result }
+{
+    [0u8; 65536]
+}
+
+fn main(rt: HostRuntime) -> io::Result<()> {
+    let mut text = text_room();
+    let mut source = rt.stdin();
+    let size = read_full(&mut source, &mut text)?;
+    let mut sink = rt.stdout();
+    replay(&mut sink, &text[..size])
 }

@@ -1,5 +1,7 @@
 // What is printed of an answer.
 use answers::Number;
+use std::io;
+use std::io::Write;
 
 pub(crate) fn low32(x: u64) -> u32 {
     (x % 0x1_0000_0000) as u32
@@ -9,29 +11,27 @@ pub(crate) fn low8(x: u64) -> u8 {
     (x % 256) as u8
 }
 
-pub(crate) fn number(x: u64) {
-    io::print_decimal(1, x);
+pub(crate) fn number<W: Write>(sink: &mut W, x: u64) -> io::Result<()> {
+    write!(sink, "{x}")
 }
 
 // The numbers of a table, a blank before each.
-pub(crate) fn table(table: &[u64]) {
-    let mut i = 0;
-    while i < table.len() {
-        io::write_all(1, b" ");
-        io::print_decimal(1, table[i]);
-        i += 1;
+pub(crate) fn table<W: Write>(sink: &mut W, table: &[u64]) -> io::Result<()> {
+    for entry in table {
+        write!(sink, " {entry}")?;
     }
+    Ok(())
 }
 
 // The number and the value of an answer.
-pub(crate) fn answer(answer: Number) {
+pub(crate) fn answer<W: Write>(sink: &mut W, answer: Number) -> io::Result<()> {
     let mut value = 0;
     let code = answers::deliver(answer, &mut value);
-    number(code as u64);
+    number(sink, code as u64)?;
     let shown = [value];
-    table(&shown);
+    table(sink, &shown)
 }
 
-pub(crate) fn line_end() {
-    io::write_all(1, b"\n");
+pub(crate) fn line_end<W: Write>(sink: &mut W) -> io::Result<()> {
+    writeln!(sink)
 }

@@ -2,13 +2,16 @@
 // side as they are left are printed; `7 WIDTH`, sixteen entries and four right sides, for the four by four solver: the number and the answer; or
 // `8 WIDTH MAX GRID K ROWS ENTRIES CELLS`, ROWS weights and ROWS targets, for the fit: the number, degree_used and the CELLS coefficients.
 use crate::print;
+use std::io;
+use std::io::Write;
 
 fn zeros() -> [u64; 128] {
     [0u64; 128]
 }
 
 // A system, of which matrix and right side are copied, as they are eliminated in place.
-fn solve(
+fn solve<W: Write>(
+    sink: &mut W,
     width: u64,
     columns: usize,
     given: &[u64],
@@ -16,7 +19,7 @@ fn solve(
     matrix: &mut [u64],
     right: &mut [u64],
     answer: &mut [u64],
-) {
+) -> io::Result<()> {
     tables::copy(given, matrix);
     tables::copy(sides, right);
     let outcome = two_adic_solver::solver::solve_2adic(
@@ -26,17 +29,21 @@ fn solve(
         print::low32(width),
         answer,
     );
-    print::number(answers::outcome_code(outcome) as u64);
-    print::table(answer);
-    print::table(matrix);
-    print::table(right);
-    print::line_end();
+    print::number(sink, answers::outcome_code(outcome) as u64)?;
+    print::table(sink, answer)?;
+    print::table(sink, matrix)?;
+    print::table(sink, right)?;
+    print::line_end(sink)
 }
 
 // The bare solver.
-pub(crate) fn replay_system(numbers: &[u64], room: &mut [u64]) {
+pub(crate) fn replay_system<W: Write>(
+    sink: &mut W,
+    numbers: &[u64],
+    room: &mut [u64],
+) -> io::Result<()> {
     if numbers.len() < 128 {
-        return;
+        return Ok(());
     }
     let columns = (numbers[2] % 8) as usize;
     let rows = (numbers[3] % 12) as usize;
@@ -44,11 +51,12 @@ pub(crate) fn replay_system(numbers: &[u64], room: &mut [u64]) {
     let end = 5 + size;
     let last = end + rows;
     if room.len() < columns {
-        return;
+        return Ok(());
     }
     let mut matrix = zeros();
     let mut right = zeros();
     solve(
+        sink,
         numbers[1],
         columns,
         &numbers[5..end],
@@ -56,11 +64,11 @@ pub(crate) fn replay_system(numbers: &[u64], room: &mut [u64]) {
         &mut matrix[..size],
         &mut right[..rows],
         &mut room[..columns],
-    );
+    )
 }
 
 // The four by four solver.
-pub(crate) fn replay_four(n: [u64; 128]) {
+pub(crate) fn replay_four<W: Write>(sink: &mut W, n: [u64; 128]) -> io::Result<()> {
     let rows = [
         [n[2], n[3], n[4], n[5]],
         [n[6], n[7], n[8], n[9]],
@@ -71,13 +79,14 @@ pub(crate) fn replay_four(n: [u64; 128]) {
     let found = two_adic_solver::fixed::solve_2adic_fixed(rows, right, print::low32(n[1]));
     let outcome = found.outcome;
     let values = found.answer;
-    print::number(answers::outcome_code(outcome) as u64);
-    print::table(&values);
-    print::line_end();
+    print::number(sink, answers::outcome_code(outcome) as u64)?;
+    print::table(sink, &values)?;
+    print::line_end(sink)
 }
 
 // A fit on its tables.
-fn fit(
+fn fit<W: Write>(
+    sink: &mut W,
     numbers: &[u64],
     support: &[u64],
     weights: &[u64],
@@ -85,15 +94,15 @@ fn fit(
     matrix: &mut [u64],
     right: &mut [u64],
     out: &mut [u64],
-) {
+) -> io::Result<()> {
     if numbers.len() < 128 {
-        return;
+        return Ok(());
     }
     let total = support.len();
     if 20 < total {
-        return;
+        return Ok(());
     }
-    print::answer(weighted_poly_fit::fit::recover_weighted_poly(
+    let answer = weighted_poly_fit::fit::recover_weighted_poly(
         weights,
         targets,
         support,
@@ -104,15 +113,21 @@ fn fit(
         matrix,
         right,
         out,
-    ));
-    print::table(out);
-    print::line_end();
+    );
+    print::answer(sink, answer)?;
+    print::table(sink, out)?;
+    print::line_end(sink)
 }
 
 // The fit, with its own matrix and right side.
-pub(crate) fn replay_fit(numbers: &[u64], variables: &[u64], room: &mut [u64]) {
+pub(crate) fn replay_fit<W: Write>(
+    sink: &mut W,
+    numbers: &[u64],
+    variables: &[u64],
+    room: &mut [u64],
+) -> io::Result<()> {
     if numbers.len() < 128 {
-        return;
+        return Ok(());
     }
     let k = (numbers[4] % 32) as usize;
     let rows = (numbers[5] % 61) as usize;
@@ -121,14 +136,15 @@ pub(crate) fn replay_fit(numbers: &[u64], variables: &[u64], room: &mut [u64]) {
     let end = 8 + rows;
     let last = end + rows;
     if variables.len() < k {
-        return;
+        return Ok(());
     }
     if room.len() < cells {
-        return;
+        return Ok(());
     }
     let mut matrix = zeros();
     let mut right = zeros();
     fit(
+        sink,
         numbers,
         &variables[..k],
         &numbers[8..end],
@@ -136,5 +152,5 @@ pub(crate) fn replay_fit(numbers: &[u64], variables: &[u64], room: &mut [u64]) {
         &mut matrix[..entries],
         &mut right[..rows],
         &mut room[..cells],
-    );
+    )
 }

@@ -3,7 +3,7 @@ ghost use Rattle.std.specs.Prelude.{◌≡◌};
 ghost use Rattle.replay.specs.Lines.{empty_line, digit_read, number_closed};
 
 // The numbers of a line so far, up to 128, and the one that is being read.
-#[derive(Drop)]
+#[derive(Clone, Copy)]
 pub(crate) struct Line {
     pub(crate) numbers: [u64; 128],
     pub(crate) count: usize,
