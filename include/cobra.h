@@ -1,6 +1,6 @@
 /*
  * Polynomials of level formulas modulo 2^width: recovery, weighted fit and value.
- * For C99 and C++. Link with libcobra.a (rt staticlib cobra writes it to target/staticlib).
+ * For C99 and C++. Link with libcobra.a (tools/library writes it to target/staticlib).
  *
  * WORDS
  *

@@ -1,6 +1,6 @@
 /*
  * Polynomials modulo 2^width: the library's calls on tables of uint64_t, with boxes of up to 65,536
- * cells. For C99 and C++. Link with libcobra.a (rt staticlib cobra writes it to target/staticlib).
+ * cells. For C99 and C++. Link with libcobra.a (tools/library writes it to target/staticlib).
  *
  * The database's three calls, cobra_recover, cobra_value and cobra_fit, take tables as bytes, of up
  * to 4,096 entries, and stand in cobra.h; it is included for the numbers that a call answers. The

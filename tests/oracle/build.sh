@@ -26,10 +26,7 @@ need_rust() {
 # The static library, built anew when it is missing or older than the crates.
 need_library() {
     [ "$(uname -m)" = x86_64 ] || skip "the static library links into x86-64 programs only"
-    if newer "$library" "$root/crates" "$root/crates.txt"; then
-        command -v rt >/dev/null || fail "target/staticlib/libcobra.a is missing or old, and rt is not there to build it"
-        (cd "$root" && rt staticlib cobra) >&2 || fail "rt staticlib cobra failed"
-    fi
+    "$root/tools/library" || fail "the static library is not there"
 }
 
 # The library's calls, one a line. Without nm the names are picked from the file's bytes.
