@@ -1,6 +1,7 @@
 -- What follows for numbers and tables once a call is known to be accepted, or refused for a reason.
-use Rattle.std.specs.Prelude.{◌≡◌, refl, List, ℕ, suc, pred}
+use Rattle.std.specs.Prelude.{◌≡◌, refl, List, ℕ, suc, pred, Result, Err, IsErrAnd}
 use Rattle.std.proofs.Common.{sym, ◌∙◌, ap}
+use Rattle.std.proofs.lemmas.Result.{err_from_is_err_and}
 use Rattle.meaning.specs.Replies.{Reply, accepted, refused}
 use Rattle.meaning.specs.Settings.{first}
 use Rattle.meaning.specs.Calls.{reply, left}
@@ -23,6 +24,10 @@ code-suc WrongLength = refl
 code-suc NoAnswer = refl
 code-suc OutOfRange = refl
 code-suc IllFormed = refl
+
+-- what `?` hands on is the refusal that came
+pub handed_on : {T : Type 0} (answer : Result T Refusal) {r : Refusal} → IsErrAnd answer (λ e. e ≡ r) → answer ≡ Err r
+handed_on answer e = let p = err_from_is_err_and answer e in p.1 ∙ ap Err p.2
 
 -- an accepted call: its number is 0 and its value the one that was asked for
 pub number-accepted : (n v : ℕ) {x : ℕ} → accepted x ≡ reply n v → n ≡ 0

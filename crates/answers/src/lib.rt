@@ -1,12 +1,16 @@
-// The answers of the calls. specs/Said.antt gives the number and the value of each.
+// Why calls are turned down, and the numbers of their answers. An answer is a `Result`: of `()` where a call only fills lent tables, of a number, or of yes or
+// no. specs/Said.antt gives the number and the value of each.
 #![tactic(auto)]
 
 ghost use Rattle.std.specs.Prelude.{◌≡◌};
 ghost use Rattle.meaning.specs.Replies.{told};
 ghost use Rattle.answers.specs.Said.{code, said_number, said, said_truth};
 
+use std::error::Error;
+use std::fmt;
+
 // Why a call is turned down.
-#[derive(Clone, Copy)]
+#[derive(Clone, Copy, Debug, PartialEq, Eq, Hash)]
 pub enum Refusal {
     // The support is empty: 1.
     EmptySupport,
@@ -34,90 +38,70 @@ pub enum Refusal {
     IllFormed,
 }
 
-// A call that only fills lent tables.
-#[derive(Clone, Copy)]
-pub enum Outcome {
-    Accepted,
-    Refused(Refusal),
-}
+impl From<Refusal> for u32 {
+    ghost from_gives = { λ refusal number. number ≡ code refusal };
 
-// A call that answers a number.
-#[derive(Clone, Copy)]
-pub enum Number {
-    Value(u64),
-    Refused(Refusal),
-}
-
-// A call that answers yes or no.
-#[derive(Clone, Copy)]
-pub enum Truth {
-    Yes,
-    No,
-    Refused(Refusal),
-}
-
-// The number of a refusal.
-pub fn refusal_code(refusal: Refusal) -> u32
-    ensures { result ≡ code refusal }
-{
-    match refusal {
-        Refusal::EmptySupport => 1,
-        Refusal::TooManyVariables => 2,
-        Refusal::WidthOutOfRange => 3,
-        Refusal::DegreeZero => 4,
-        Refusal::SupportIndex => 5,
-        Refusal::NotDivisible => 6,
-        Refusal::RepeatedIndex => 7,
-        Refusal::TooLarge => 8,
-        Refusal::WrongLength => 9,
-        Refusal::NoAnswer => 10,
-        Refusal::OutOfRange => 11,
-        Refusal::IllFormed => 12,
+    // The number of a refusal.
+    fn from(refusal: Refusal) -> u32 {
+        match refusal {
+            Refusal::EmptySupport => 1,
+            Refusal::TooManyVariables => 2,
+            Refusal::WidthOutOfRange => 3,
+            Refusal::DegreeZero => 4,
+            Refusal::SupportIndex => 5,
+            Refusal::NotDivisible => 6,
+            Refusal::RepeatedIndex => 7,
+            Refusal::TooLarge => 8,
+            Refusal::WrongLength => 9,
+            Refusal::NoAnswer => 10,
+            Refusal::OutOfRange => 11,
+            Refusal::IllFormed => 12,
+        }
     }
 }
 
+impl fmt::Display for Refusal {
+    fn fmt<W: fmt::Write>(&self, f: &mut fmt::Formatter<W>) -> fmt::Result {
+        f.write_str(match self {
+            Refusal::EmptySupport => "the support is empty",
+            Refusal::TooManyVariables => "there are more than 20 variables",
+            Refusal::WidthOutOfRange => "the width is not 2 to 64",
+            Refusal::DegreeZero => "the highest degree is 0",
+            Refusal::SupportIndex => "a support index is not below the number of variables",
+            Refusal::NotDivisible => "no polynomial has the values",
+            Refusal::RepeatedIndex => "a support index stands twice",
+            Refusal::TooLarge => "a box, a matrix or its columns are above the limit",
+            Refusal::WrongLength => "a table does not have its exact length",
+            Refusal::NoAnswer => "the elimination finds no answer",
+            Refusal::OutOfRange => "an argument is outside its range",
+            Refusal::IllFormed => "the file is ill-formed",
+        })
+    }
+}
+
+impl Error for Refusal {}
+
 // The number that an outcome says: 0 where it is accepted.
-pub fn outcome_code(outcome: Outcome) -> u32
+pub fn outcome_code(outcome: Result<(), Refusal>) -> u32
     ensures { result ≡ said_number outcome }
 {
     match outcome {
-        Outcome::Accepted => 0,
-        Outcome::Refused(refusal) => refusal_code(refusal),
+        Ok(()) => 0,
+        Err(refusal) => u32::from(refusal),
     }
 }
 
 // The number that an answer says, with its value, or 0, stored at `value`.
-pub fn deliver(answer: Number, value: &mut u64) -> u32
+pub fn deliver(answer: Result<u64, Refusal>, value: &mut u64) -> u32
     ensures { told result value.new ≡ said answer }
 {
-    match answer {
-        Number::Value(found) => {
-            *value = found;
-            0
-        }
-        Number::Refused(refusal) => {
-            *value = 0;
-            refusal_code(refusal)
-        }
-    }
+    *value = answer.unwrap_or(0);
+    outcome_code(answer.map(|_| ()))
 }
 
 // The number that a yes or no says, with 1 or 0, or 0 beside a refusal, stored at `value`.
-pub fn deliver_truth(answer: Truth, value: &mut u64) -> u32
+pub fn deliver_truth(answer: Result<bool, Refusal>, value: &mut u64) -> u32
     ensures { told result value.new ≡ said_truth answer }
 {
-    match answer {
-        Truth::Yes => {
-            *value = 1;
-            0
-        }
-        Truth::No => {
-            *value = 0;
-            0
-        }
-        Truth::Refused(refusal) => {
-            *value = 0;
-            refusal_code(refusal)
-        }
-    }
+    deliver(answer.map(u64::from), value)
 }

@@ -1,4 +1,4 @@
-// Arithmetic modulo 2^w on u64, for every width: at width 0 the modulus is 1, from 64 on it is 2^64.
+// Arithmetic modulo 2^w on u64, for every width: at width 0 the modulus is 1, from 64 on it is 2^64. Numbers and width come as C passes them.
 #![tactic(auto)]
 
 ghost use Rattle.std.specs.Prelude.{◌≡◌, ◌+◌, ◌-◌, ◌*◌, ◌%◌, ◌^◌, ◌<◌, min};
@@ -20,21 +20,15 @@ pub fn wrapping_mul(a: u64, b: u64) -> u64
     let a_high = a / 0x1_0000_0000;
     let b_low = b % 0x1_0000_0000;
     let b_high = b / 0x1_0000_0000;
-    let cross = std::num::wrapping_add_u64(
-        half_product(a_low, b_high),
-        half_product(a_high, b_low),
-    );
-    std::num::wrapping_add_u64(
-        half_product(a_low, b_low),
-        cross % 0x1_0000_0000 * 0x1_0000_0000,
-    )
+    let cross = half_product(a_low, b_high).wrapping_add(half_product(a_high, b_low));
+    half_product(a_low, b_low).wrapping_add(cross % 0x1_0000_0000 * 0x1_0000_0000)
 }
 
-// a - b modulo 2^64.
+// a - b modulo 2^64, by the definition with which proofs calculate.
 pub fn wrapping_sub(a: u64, b: u64) -> u64
     ensures { result ≡ minus (2 ^ 64) a b }
 {
-    std::num::wrapping_sub_u64(a, b)
+    a.wrapping_sub(b)
 }
 
 // The number whose low bits, as many as the width, are ones: 0 at width 0, all ones from 64 on.
@@ -42,7 +36,7 @@ pub fn bitmask(width: u32) -> u64
     ensures { result ≡ 2 ^ min width 64 - 1 }
 {
     if 64 <= width {
-        return 0xffff_ffff_ffff_ffff;
+        return u64::MAX;
     }
     (1u64 << width) - 1
 }
@@ -51,7 +45,7 @@ pub fn bitmask(width: u32) -> u64
 pub fn mod_add(a: u64, b: u64, width: u32) -> u64
     ensures { result ≡ (a + b) % 2 ^ min width 64 }
 {
-    std::num::wrapping_add_u64(a, b) & bitmask(width)
+    a.wrapping_add(b) & bitmask(width)
 }
 
 // a - b modulo 2^width.

@@ -10,26 +10,26 @@ use lib.ListN.{length}
 use Rattle.meaning.specs.Tables.{tabulate, at}
 use Rattle.meaning.specs.Boxes.{cells}
 use Rattle.theory.specs.Tables.{eq-tabulate}
-use Rattle.lines.specs.declared.Transform.{Transform}
-use Rattle.lines.specs.Transforms.{transformed, box_of}
+use Rattle.theory.specs.AlongEach.{Line}
+use Rattle.lines.specs.Transforms.{transformed, box_of, OfMul}
 use Rattle.lines.specs.TransformLaws.{cut-transformed}
 
 -- each number modulo 2^w
 abbrev cut : ℕ → List ℕ → List ℕ
 cut w u = tabulate (length u) (λ i. at u i % 2 ^ min w 64)
 
-module _ (transform : Transform) (w : ℕ) (ds c : List ℕ) {t u : List ℕ} (h : w ≤ 64) (whole : length c ≡ cells ds) (first : t ≡ c)
-    (second : u ≡ cond (eqb (length t) (cells ds)) (transformed transform (2 ^ 64) ds t) t) where
-  pub box_of_cut : cut w u ≡ box_of transform (2 ^ w) ds c
+module _ (line : ℕ → Line) (of_mul : OfMul line) (w : ℕ) (ds c : List ℕ) {t u : List ℕ} (h : w ≤ 64) (whole : length c ≡ cells ds) (first : t ≡ c)
+    (second : u ≡ cond (eqb (length t) (cells ds)) (transformed line (2 ^ 64) ds t) t) where
+  pub box_of_cut : cut w u ≡ box_of line (2 ^ w) ds c
   box_of_cut =
       ap (λ (k : ℕ). tabulate (length u) (λ i. at u i % 2 ^ k)) (min-eq_left h)
       ∙ ap (λ (u : List ℕ). tabulate (length u) (λ i. at u i % 2 ^ w)) (second ∙ all)
-      ∙ cut-transformed transform w ds c h whole
+      ∙ cut-transformed line of_mul w ds c h whole
     where
-      all : cond (eqb (length t) (cells ds)) (transformed transform (2 ^ 64) ds t) t ≡ transformed transform (2 ^ 64) ds c
+      all : cond (eqb (length t) (cells ds)) (transformed line (2 ^ 64) ds t) t ≡ transformed line (2 ^ 64) ds c
       all = rw (first, eq-eqb (length c) (cells ds) whole)
 
-  pub box_of_words : 64 ≤ w → ((i : ℕ) → at u i < 2 ^ 64) → u ≡ box_of transform (2 ^ w) ds c
+  pub box_of_words : 64 ≤ w → ((i : ℕ) → at u i < 2 ^ 64) → u ≡ box_of line (2 ^ w) ds c
   box_of_words l small =
       eq-tabulate u (length u) (λ i. at u i % 2 ^ min w 64) refl
       (λ i p. sym (ap (λ (k : ℕ). at u i % 2 ^ k) (min-eq_right l) ∙ mod-eq_of_lt (small i)))

@@ -1,4 +1,5 @@
 -- From the answers of the calls to the text of the layout.
+use Rattle.std.specs.Prelude.{Ok, Err, ⊤, Result, MatchResult, IsOkAnd}
 use mathlib.Core.Path.{◌≡◌, refl, sym, ◌∙◌, ap, ap₂, subst}
 use mathlib.Core.Bool.{Bool, true, false, ◌&&◌, cond}
 use mathlib.Core.List.{List, [], ◌++◌, append-nil}
@@ -11,6 +12,9 @@ use lib.Dec.{eqb}
 use lib.ListN.{length, take, drop, length-append}
 use lib.Seq.{sets, sets-eq, take_at, length-take-le}
 use Rattle.std.specs.declared.option.Option.{Option}
+use Rattle.std.specs.Result.{result_unwrap_or}
+use Rattle.answers.specs.declared.Refusal.{Refusal}
+use Rattle.answers.specs.Said.{said, said_number}
 use Rattle.std.specs.Io.KnownBytes.{Consumes, Keeps}
 use Rattle.std.proofs.KnownBytes.{Consumes-nil, Consumes-trans, Consumes-kept}
 use Rattle.meaning.specs.Tables.{tabulate}
@@ -25,12 +29,13 @@ use Rattle.theory.specs.Ranges.{width_high}
 use Rattle.bench_file.specs.Layout.{Head, longest_file, ill_head, ill_values, whole, degrees_of, head_number, bench_number, accepted_text, refused_text, bench_text}
 use Rattle.bench_file.specs.Verdict.{verdict, narrowed}
 use Rattle.bench_file.specs.VerdictLaws.{narrowed_width, narrowed-total}
-use Rattle.bench_file.specs.declared.reader.Reading.{Reading}
 use Rattle.bench_file.specs.Steps.{State, state, none_read, fed}
 use Rattle.bench_file.specs.StepLaws.{fed-append}
 use Rattle.bench_file.specs.HeadLines.{eq_or_ne}
 use Rattle.bench_file.specs.declared.reader.Reader.{Reader}
-use Rattle.bench.specs.Answers.{LedFrom, asked, text_for, recovered_text, number_of, text_of}
+use Rattle.settings.specs.declared.Settings.{Settings}
+use Rattle.bench.specs.Answers.{LedFrom, asked, asked_by, text_for, number_of, text_of}
+use Rattle.bench_file.specs.declared.reader.IllFormed.{IllFormed}
 
 -- the number in a text: 0, or not
 pub text_for_zero : (n : ℕ) (ds cs : List ℕ) → n ≡ 0 → text_for n ds cs ≡ accepted_text ds cs
@@ -44,25 +49,25 @@ text_no_table : (n : ℕ) (ds cs ks : List ℕ) → (n ≡ 0 → ⊥) → text_f
 text_no_table n ds cs ks e = text_for_pos n ds cs e ∙ sym (text_for_pos n ds ks e)
 
 -- a number of the settings is said alone, and so is recovery's 6
-verdict_stops : (x : Reading) (n : ℕ) (a b : Bool) (k m : ℕ) → verdict x (suc n) a k ≡ verdict x (suc n) b m
+verdict_stops : (x : Result ⊤ IllFormed) (n : ℕ) (a b : Bool) (k m : ℕ) → verdict x (suc n) a k ≡ verdict x (suc n) b m
 unfolding verdict
-verdict_stops Reading.IllHead n a b k m = refl
-verdict_stops Reading.IllValues n a b k m = refl
-verdict_stops Reading.Whole n a b k m = refl
+verdict_stops (Err IllFormed.Head) n a b k m = refl
+verdict_stops (Err IllFormed.Values) n a b k m = refl
+verdict_stops (Ok tt) n a b k m = refl
 
-verdict_pos : (x : Reading) (n : ℕ) (a : Bool) (k : ℕ) → verdict x (suc n) a k ≡ 0 → ⊥
+verdict_pos : (x : Result ⊤ IllFormed) (n : ℕ) (a : Bool) (k : ℕ) → verdict x (suc n) a k ≡ 0 → ⊥
 unfolding verdict
-verdict_pos Reading.IllHead n a k e = suc-ne-zero 11 e
-verdict_pos Reading.IllValues n a k e = suc-ne-zero n e
-verdict_pos Reading.Whole n a k e = suc-ne-zero n e
+verdict_pos (Err IllFormed.Head) n a k e = suc-ne-zero 11 e
+verdict_pos (Err IllFormed.Values) n a k e = suc-ne-zero n e
+verdict_pos (Ok tt) n a k e = suc-ne-zero n e
 
-verdict_six : (x : Reading) (n : ℕ) (a : Bool) → verdict x n a 6 ≡ 0 → ⊥
+verdict_six : (x : Result ⊤ IllFormed) (n : ℕ) (a : Bool) → verdict x n a 6 ≡ 0 → ⊥
 unfolding verdict
 verdict_six x (suc n) a e = verdict_pos x n a 6 e
-verdict_six Reading.IllHead zero a e = suc-ne-zero 11 e
-verdict_six Reading.IllValues zero a e = suc-ne-zero 11 e
-verdict_six Reading.Whole zero true e = suc-ne-zero 5 e
-verdict_six Reading.Whole zero false e = suc-ne-zero 8 e
+verdict_six (Err IllFormed.Head) zero a e = suc-ne-zero 11 e
+verdict_six (Err IllFormed.Values) zero a e = suc-ne-zero 11 e
+verdict_six (Ok tt) zero true e = suc-ne-zero 5 e
+verdict_six (Ok tt) zero false e = suc-ne-zero 8 e
 
 -- the first two lines' numbers, and the calls on them
 module _ (w total d : ℕ) (support : List ℕ) where
@@ -71,18 +76,6 @@ module _ (w total d : ℕ) (support : List ℕ) where
 
   abbrev ds : List ℕ
   ds = cube support d
-
-  -- the settings as the calls take them
-  pub settings-narrowed : (limit : ℕ) →
-      limited_number limit true (narrowed total) (fits_width (narrowed w)) support ds ≡ limited_number limit true total (fits_width w) support ds
-  settings-narrowed limit =
-      ap (λ (b : Bool). limited_number limit true (narrowed total) b support ds) (narrowed_width w)
-      ∙ narrowed-total limit true total (fits_width w) support ds
-
-  -- what is said of them
-  pub box-told : reply (limited_number byte_limit true (narrowed total) (fits_width (narrowed w)) support ds) (cells ds) ≡ reply (head_number h) (cells ds)
-  unfolding head_number
-  box-told = ap (λ (n : ℕ). reply n (cells ds)) (settings-narrowed byte_limit)
 
   -- settings that pass
   module _ (pass : head_number h ≡ 0) where
@@ -100,33 +93,22 @@ module _ (w total d : ℕ) (support : List ℕ) where
         omega arith
 
     -- recovery then has all it needs
-    pub in_out : (v z : List ℕ) → length v ≡ cells ds → length z ≡ cells ds → in_out_number true (narrowed total) (narrowed w) support ds v z ≡ 0
+    pub in_out : (v z : List ℕ) → length v ≡ cells ds → length z ≡ cells ds → in_out_number true total w support ds v z ≡ 0
     unfolding call_number
     in_out v z a b =
-        ap (λ (n : ℕ). first n (cond (eqb (length v) (cells ds) && eqb (length z) (cells ds)) 0 9)) (settings-narrowed table_limit ∙ head_settings)
+        ap (λ (n : ℕ). first n (cond (eqb (length v) (cells ds) && eqb (length z) (cells ds)) 0 9)) head_settings
         ∙ simp (eq-eqb (length v) (cells ds) a, eq-eqb (length z) (cells ds) b)
 
     pub recovered_number : (v z : List ℕ) → length v ≡ cells ds → length z ≡ cells ds
-        → recovery_number (narrowed total) (narrowed w) support ds v z ≡ cond (accepts w ds v) 0 6
+        → recovery_number total w support ds v z ≡ cond (accepts w ds v) 0 6
     unfolding recovery_number
-    recovered_number v z a b =
-        ap (λ (n : ℕ). first n (cond (accepts (narrowed w) ds v) 0 6)) (in_out v z a b)
-        ∙ ap (λ (n : ℕ). cond (accepts n ds v) 0 6) head_width
+    recovered_number v z a b = ap (λ (n : ℕ). first n (cond (accepts w ds v) 0 6)) (in_out v z a b)
 
     pub recovered_left : (v z : List ℕ) → length v ≡ cells ds → length z ≡ cells ds
-        → recovery_left (narrowed total) (narrowed w) support ds v z ≡ cond (accepts w ds v) (answer w ds v) (tabulate (cells ds) (λ n. 0))
+        → recovery_left total w support ds v z ≡ cond (accepts w ds v) (answer w ds v) (tabulate (cells ds) (λ n. 0))
     unfolding recovery_left
     recovered_left v z a b =
-        ap (λ (n : ℕ). left n (cond (accepts (narrowed w) ds v) (answer (narrowed w) ds v) (tabulate (cells ds) (λ n. 0))) z) (in_out v z a b)
-        ∙ ap (λ (n : ℕ). cond (accepts n ds v) (answer n ds v) (tabulate (cells ds) (λ n. 0))) head_width
-
-  -- the text of the calls' answers
-  pub text_after : (x : Reading) (settings : ℕ) (exact : Bool) (v z : List ℕ) (few bits recovered number : ℕ) (cs : List ℕ)
-      → few ≡ narrowed total → bits ≡ narrowed w → recovered ≡ recovery_number few bits support ds v z → cs ≡ recovery_left few bits support ds v z
-      → number ≡ verdict x settings exact recovered → text_for number ds cs ≡ recovered_text x settings exact h v z
-  text_after x settings exact v z few bits recovered number cs f b r l n =
-      ap₂ (λ (m : ℕ) (ks : List ℕ). text_for m ds ks) (n ∙ ap (verdict x settings exact) r) l
-      ∙ ap₂ (λ (f b : ℕ). text_for (verdict x settings exact (recovery_number f b support ds v z)) ds (recovery_left f b support ds v z)) f b
+        ap (λ (n : ℕ). left n (cond (accepts w ds v) (answer w ds v) (tabulate (cells ds) (λ n. 0))) z) (in_out v z a b)
 
   -- the number and the size that are told of the settings
   module _ (settings size : ℕ) (says : told settings size ≡ reply (head_number h) (cells ds)) where
@@ -145,15 +127,19 @@ module _ (w total d : ℕ) (support : List ℕ) where
             let z : size ≡ 0 = ap (λ (r : Reply). r.value) says ∙ ap (λ (n : ℕ). (reply n (cells ds)).value) e in
             omega arith
 
+    -- the text after recovery on the values `v` and a table `z` for the coefficients
+    abbrev recovered : Result ⊤ IllFormed → Bool → List ℕ → List ℕ → List ℕ
+    recovered x exact v z = text_for (verdict x settings exact (recovery_number total w support ds v z)) ds (recovery_left total w support ds v z)
+
     -- recovery on the first `size` values
-    module _ (x : Reading) (count : ℕ) (t z : List ℕ) (room : length t ≡ 4096) (same : length z ≡ size) where
+    module _ (x : Result ⊤ IllFormed) (count : ℕ) (t z : List ℕ) (room : length t ≡ 4096) (same : length z ≡ size) where
       -- settings that pass: the number is the one of the definition, and where it is 0 the coefficients are too
-      text_passing : head_number h ≡ 0 → recovered_text x settings (eqb count size) h (take size t) z ≡ text_of x h count t
+      text_passing : head_number h ≡ 0 → recovered x (eqb count size) (take size t) z ≡ text_of x h count t
       unfolding text_of number_of
       text_passing e =
           let s = told_size e in
           let a : length (take size t) ≡ cells ds = length-take-le size t (omega (arith, size_le, room)) ∙ s in
-          ap₂ (λ (n k : ℕ). text_for (verdict x n (eqb count size) k) ds (recovery_left (narrowed total) (narrowed w) support ds (take size t) z))
+          ap₂ (λ (n k : ℕ). text_for (verdict x n (eqb count size) k) ds (recovery_left total w support ds (take size t) z))
           told-number (recovered_number e (take size t) z a (same ∙ s))
           ∙ ap (text_for (verdict x (head_number h) (eqb count size) (cond (accepts w ds (take size t)) 0 6)) ds)
           (recovered_left e (take size t) z a (same ∙ s))
@@ -169,35 +155,95 @@ module _ (w total d : ℕ) (support : List ℕ) where
               (verdict_six x (head_number h) (eqb count size))
 
       -- settings that do not pass: nothing else counts
-      text_stopping : (n : ℕ) → head_number h ≡ suc n → recovered_text x settings (eqb count size) h (take size t) z ≡ text_of x h count t
+      text_stopping : (n : ℕ) → head_number h ≡ suc n → recovered x (eqb count size) (take size t) z ≡ text_of x h count t
       unfolding text_of number_of
       text_stopping n e =
           let v = take size t in
-          let k = recovery_number (narrowed total) (narrowed w) support ds v z in
+          let k = recovery_number total w support ds v z in
           let m : ℕ = cond (accepts w ds (take (cells ds) t)) 0 6 in
-          ap (λ (s : ℕ). text_for (verdict x s (eqb count size) k) ds (recovery_left (narrowed total) (narrowed w) support ds v z)) (told-number ∙ e)
-          ∙ text_no_table (verdict x (suc n) (eqb count size) k) ds (recovery_left (narrowed total) (narrowed w) support ds v z)
+          ap (λ (s : ℕ). text_for (verdict x s (eqb count size) k) ds (recovery_left total w support ds v z)) (told-number ∙ e)
+          ∙ text_no_table (verdict x (suc n) (eqb count size) k) ds (recovery_left total w support ds v z)
           (answer w ds (take (cells ds) t)) (verdict_pos x n (eqb count size) k)
           ∙ ap (λ (s : ℕ). text_for s ds (answer w ds (take (cells ds) t))) (verdict_stops x n (eqb count size) (eqb count (cells ds)) k m)
           ∙ sym (ap (λ (s : ℕ). text_for (verdict x s (eqb count (cells ds)) m) ds (answer w ds (take (cells ds) t))) e)
 
-      pub text_recovered : recovered_text x settings (eqb count size) h (take size t) z ≡ text_of x h count t
+      pub text_recovered : recovered x (eqb count size) (take size t) z ≡ text_of x h count t
       text_recovered = go (head_number h) refl
         where
-          go : (n : ℕ) → head_number h ≡ n → recovered_text x settings (eqb count size) h (take size t) z ≡ text_of x h count t
+          go : (n : ℕ) → head_number h ≡ n → recovered x (eqb count size) (take size t) z ≡ text_of x h count t
           go zero e = text_passing e
           go (suc n) e = text_stopping n e
+
+-- an outcome without its number
+pub mapped : (F : ℕ → ⊤ → Type 0) (a : Result ℕ Refusal) (b : Result ⊤ Refusal) → MatchResult a (λ x. IsOkAnd b (F x)) (λ r. b ≡ Err r) → said_number b ≡ (said a).number
+mapped F (Ok n) (Ok u) m = refl
+mapped F (Ok n) (Err r) m = absurd m
+mapped F (Err q) b m = ap said_number m
+
+-- what a check of settings said, as an outcome and the cells, or 0
+module _ (s : Settings) (a : Result ℕ Refusal) (size : ℕ) (says : said a ≡ reply (head_number (asked_by s)) (cells (degrees_of (asked_by s))))
+    (sized : size ≡ result_unwrap_or a 0) where
+  value : size ≡ (said a).value
+  value = sized ∙ go a
+    where
+      go : (a : Result ℕ Refusal) → result_unwrap_or a 0 ≡ (said a).value
+      go (Ok n) = refl
+      go (Err r) = refl
+
+  pub small_cells : size ≤ 4096
+  small_cells = size_le s.bitwidth s.total s.max_degree s.support.now (said a).number size (ap (told (said a).number) value ∙ says)
+
+  pub told_said : (b : Result ⊤ Refusal) → said_number b ≡ (said a).number
+      → told (said_number b) size ≡ reply (head_number (asked_by s)) (cells (degrees_of (asked_by s)))
+  told_said b outcome = ap₂ told outcome value ∙ says
+
+-- the settings as the calls take them, in 32 bits: larger ones are turned down either way
+module _ (w total d : ℕ) (support : List ℕ) where
+  abbrev given : Head
+  given = asked w total d support
+
+  abbrev cut : Head
+  cut = asked (narrowed w) (narrowed total) d support
+
+  head-narrowed : head_number cut ≡ head_number given
+  unfolding head_number
+  head-narrowed =
+      ap (λ (b : Bool). limited_number byte_limit true (narrowed total) b support (degrees_of given)) (narrowed_width w)
+      ∙ narrowed-total byte_limit true total (fits_width w) support (degrees_of given)
+
+  pub text-narrowed : (x : Result ⊤ IllFormed) (count : ℕ) (t : List ℕ) → text_of x cut count t ≡ text_of x given count t
+  unfolding text_of number_of
+  text-narrowed x count t = go (head_number given) refl
+    where
+      v : List ℕ
+      v = take (cells (degrees_of given)) t
+
+      same : Bool
+      same = eqb count (cells (degrees_of given))
+
+      go : (n : ℕ) → head_number given ≡ n → text_of x cut count t ≡ text_of x given count t
+      go zero e =
+          ap₂ (λ (n k : ℕ). text_for (verdict x n same (cond (accepts k (degrees_of given) v) 0 6)) (degrees_of given) (answer k (degrees_of given) v))
+          head-narrowed (head_width w total d support e)
+      go (suc n) e =
+          let ds = degrees_of given in
+          let less : ℕ = cond (accepts (narrowed w) ds v) 0 6 in
+          let more : ℕ = cond (accepts w ds v) 0 6 in
+          ap (λ (s : ℕ). text_for (verdict x s same less) ds (answer (narrowed w) ds v)) (head-narrowed ∙ e)
+          ∙ text_no_table (verdict x (suc n) same less) ds (answer (narrowed w) ds v) (answer w ds v) (verdict_pos x n same less)
+          ∙ ap (λ (s : ℕ). text_for s ds (answer w ds v)) (verdict_stops x n same same less more)
+          ∙ sym (ap (λ (s : ℕ). text_for (verdict x s same more) ds (answer w ds v)) e)
 
 -- ---- from what the reader holds to what the bytes say
 
 module _ (h : Head) (t : List ℕ) where
   -- first lines that are ill-formed
-  pub text_ill_head : (count : ℕ) → text_of Reading.IllHead h count t ≡ bench_text ill_head
+  pub text_ill_head : (count : ℕ) → text_of (Err IllFormed.Head) h count t ≡ bench_text ill_head
   unfolding text_of number_of verdict bench_text bench_number
   text_ill_head count = refl
 
   -- values that are
-  pub text_ill_values : (count : ℕ) → text_of Reading.IllValues h count t ≡ bench_text (ill_values h)
+  pub text_ill_values : (count : ℕ) → text_of (Err IllFormed.Values) h count t ≡ bench_text (ill_values h)
   unfolding text_of number_of verdict bench_text bench_number
   text_ill_values count = go (head_number h)
     where
@@ -211,7 +257,7 @@ module _ (h : Head) (t : List ℕ) where
     abbrev c : ℕ
     c = cells (degrees_of h)
 
-    whole_exact : head_number h ≡ 0 → length vs ≡ c → text_of Reading.Whole h count t ≡ bench_text (whole h vs)
+    whole_exact : head_number h ≡ 0 → length vs ≡ c → text_of (Ok tt) h count t ≡ bench_text (whole h vs)
     unfolding text_of number_of verdict bench_text bench_number
     whole_exact e q =
         let few = head_cells h.width h.total h.degree h.support e in
@@ -222,7 +268,7 @@ module _ (h : Head) (t : List ℕ) where
         ap₂ (λ (b : Bool) (v : List ℕ). text_for (first (head_number h) (cond b (cond (accepts h.width (degrees_of h) v) 0 6) 9))
         (degrees_of h) (answer h.width (degrees_of h) v)) (eq-eqb count c same ∙ sym (eq-eqb (length vs) c q)) first-ones
 
-    whole_wrong : head_number h ≡ 0 → (length vs ≡ c → ⊥) → text_of Reading.Whole h count t ≡ bench_text (whole h vs)
+    whole_wrong : head_number h ≡ 0 → (length vs ≡ c → ⊥) → text_of (Ok tt) h count t ≡ bench_text (whole h vs)
     unfolding text_of number_of verdict bench_text bench_number
     whole_wrong e q =
         let few = head_cells h.width h.total h.degree h.support e in
@@ -235,7 +281,7 @@ module _ (h : Head) (t : List ℕ) where
         ∙ sym (ap₂ (λ (n : ℕ) (x : Bool). text_for (first n (cond x (cond (accepts h.width (degrees_of h) vs) 0 6) 9)) (degrees_of h) b)
         e (ne_eqb (length vs) c q))
 
-    whole_stopping : (n : ℕ) → head_number h ≡ suc n → text_of Reading.Whole h count t ≡ bench_text (whole h vs)
+    whole_stopping : (n : ℕ) → head_number h ≡ suc n → text_of (Ok tt) h count t ≡ bench_text (whole h vs)
     unfolding text_of number_of verdict bench_text bench_number
     whole_stopping n e =
         let a = answer h.width (degrees_of h) (take c t) in
@@ -244,10 +290,10 @@ module _ (h : Head) (t : List ℕ) where
         ∙ text_no_table (suc n) (degrees_of h) a b (suc-ne-zero n)
         ∙ sym (ap (λ (n : ℕ). text_for (first n (cond (eqb (length vs) c) (cond (accepts h.width (degrees_of h) vs) 0 6) 9)) (degrees_of h) b) e)
 
-    pub text_whole : text_of Reading.Whole h count t ≡ bench_text (whole h vs)
+    pub text_whole : text_of (Ok tt) h count t ≡ bench_text (whole h vs)
     text_whole = go (head_number h) refl
       where
-        go : (n : ℕ) → head_number h ≡ n → text_of Reading.Whole h count t ≡ bench_text (whole h vs)
+        go : (n : ℕ) → head_number h ≡ n → text_of (Ok tt) h count t ≡ bench_text (whole h vs)
         go zero e = ⊎_elim (whole_exact e) (whole_wrong e) (eq_or_ne (length vs) c)
         go (suc n) e = whole_stopping n e
 

@@ -5,8 +5,8 @@ use Prim.Native.Nat.{ℕ, ◌+◌, ◌≤◌}
 use native.Mathlib.Omega.{arith}
 use lib.ListN.{length, take, drop, replicate}
 use lib.Seq.{sets-eq, take_at, length-sets}
-use Rattle.std.specs.Prelude.{None, Some, IfSome}
-use Rattle.std.specs.declared.option.Option.{Option}
+use Rattle.std.specs.Prelude.{None, Some, IfSome, Option, Ok, Err, ⊤, Result, ◌⊎◌, IsSome}
+use mathlib.Core.Logic.{⊎_elim, inl, inr}
 use Rattle.std.specs.Io.KnownBytes.{Consumes, Appends, IsAtEnd}
 use Rattle.std.proofs.KnownBytes.{Consumes-whole}
 use Rattle.bench_file.specs.Layout.{Content, Says, ill_head, ill_values, whole, bench_text}
@@ -14,15 +14,12 @@ use Rattle.bench_file.specs.Steps.{State, state, none_read, fed, head_of, readin
 use Rattle.bench_file.specs.Reading.{ReadAs, read_ill_head, read_ill_values, read_whole}
 use Rattle.bench_file.specs.ReaderLaws.{read_as, ill_head_stays}
 use Rattle.bench_file.specs.AnswerLaws.{printed_whole, printed_size_lem}
-use Rattle.bench_file.specs.declared.answer.Written.{Written}
-use Rattle.bench_file.specs.declared.reader.Reading.{Reading}
 use Rattle.bench_file.specs.declared.reader.Reader.{Reader}
-use Rattle.bench_file.specs.declared.reader.Stage.{Stage}
 use Rattle.bench.specs.Answers.{FedBy, Led, SaysText, LeavesText}
 use Rattle.bench.proofs.RoomLaws.{text_room_lem}
 use Rattle.bench.specs.GridAnswers.{answering}
-use Rattle.bench.specs.Endings.{TextOf, WholeText, IllHeadText, Answered, SourceText, Printed}
-use Rattle.bench.specs.declared.End.{End}
+use Rattle.bench.specs.Endings.{TextOf, WholeText, IllHeadText, IsDecided, Answered, SourceText, Printed}
+use Rattle.bench_file.specs.declared.reader.IllFormed.{IllFormed}
 
 -- all bytes say something
 record Said (bs : List ℕ) : Type 0 where
@@ -32,10 +29,10 @@ record Said (bs : List ℕ) : Type 0 where
 said_of : (t₀ bs : List ℕ) → Said bs
 said_of t₀ bs = go (fed (state none_read t₀) bs) (reading_of (fed (state none_read t₀) bs).reader) (read_as t₀ bs)
   where
-    go : (s : State) (y : Reading) → ReadAs t₀ bs s y → Said bs
-    go s Reading.IllHead (read_ill_head p) = record { content = ill_head; says = p }
-    go s Reading.IllValues (read_ill_values p) = record { content = ill_values (head_of s.reader); says = p }
-    go s Reading.Whole (read_whole vs p c v) = record { content = whole (head_of s.reader) vs; says = p }
+    go : (s : State) (y : Result ⊤ IllFormed) → ReadAs t₀ bs s y → Said bs
+    go s (Err IllFormed.Head) (read_ill_head p) = record { content = ill_head; says = p }
+    go s (Err IllFormed.Values) (read_ill_values p) = record { content = ill_values (head_of s.reader); says = p }
+    go s (Ok tt) (read_whole vs p c v) = record { content = whole (head_of s.reader) vs; says = p }
 
 -- what holds of some bytes and any that follow them holds of all that a source had which gave these bytes
 given_front : (a b : Option (List ℕ)) (bs : List ℕ) (P : List ℕ → Type 0) → Consumes a b bs → ((more : List ℕ) → P (bs ++ more)) → IfSome a P
@@ -44,7 +41,7 @@ given_front (Some x) None bs P k h = absurd k
 given_front (Some x) (Some y) bs P k h = subst P (sym k) (h y)
 
 -- what is printed where the bytes say this
-module _ (t₀ : List ℕ) (zeros : t₀ ≡ replicate 4096 0) (r : Reader) (t out left : List ℕ) (w : Written) (unread : ℕ) (led : Led t₀ r t unread)
+module _ (t₀ : List ℕ) (zeros : t₀ ≡ replicate 4096 0) (r : Reader) (t out left : List ℕ) (w : Option ℕ) (unread : ℕ) (led : Led t₀ r t unread)
     (room : length out ≡ 1122347) (says : SaysText r t out w) (leaves : LeavesText r t out left) where
   by_bytes : FedBy r t led.bytes
   by_bytes = led.led ∙ ap (λ (x : List ℕ). fed (state none_read x) led.bytes) zeros
@@ -53,10 +50,10 @@ module _ (t₀ : List ℕ) (zeros : t₀ ≡ replicate 4096 0) (r : Reader) (t o
   fits x = omega (arith, text_room_lem x, room)
 
   -- the text fits
-  has_size : (x : Content) → Says led.bytes x → w ≡ Written.Bytes (length (bench_text x))
+  has_size : (x : Content) → Says led.bytes x → w ≡ Some (length (bench_text x))
   has_size x s = says led.bytes x by_bytes s ∙ printed_size_lem (bench_text x) out (fits x)
 
-  text_of : (x : Content) → Says led.bytes x → (n : ℕ) → w ≡ Written.Bytes n → TextOf x n out left
+  text_of : (x : Content) → Says led.bytes x → (n : ℕ) → w ≡ Some n → TextOf x n out left
   text_of x s n e =
       record {
         text = bench_text x;
@@ -66,25 +63,25 @@ module _ (t₀ : List ℕ) (zeros : t₀ ≡ replicate 4096 0) (r : Reader) (t o
         begins = leaves led.bytes x by_bytes s ∙ printed_whole (bench_text x) out (fits x);
       }
     where
-      bytes_of : Written → ℕ
-      bytes_of (Written.Bytes n) = n
-      bytes_of Written.NoRoom = 0
+      bytes_of : Option ℕ → ℕ
+      bytes_of (Some n) = n
+      bytes_of None = 0
 
   said : Said led.bytes
   said = said_of t₀ led.bytes
 
-  whole_text : (n : ℕ) → w ≡ Written.Bytes n → WholeText n out left
+  whole_text : (n : ℕ) → w ≡ Some n → WholeText n out left
   whole_text n e =
       record { bytes = led.bytes; content = said.content; says = said.says; text = text_of said.content said.says n e }
 
   -- first lines that are ill-formed stay so
-  stays : (unread ≡ 0) × (r.stage ≡ Stage.IllHead) → (more : List ℕ) → Says (led.bytes ++ more) ill_head
+  stays : IsDecided r unread → (more : List ℕ) → Says (led.bytes ++ more) ill_head
   stays ill = ill_head_stays t₀ led.bytes (ap (λ (s : State). s.reader.stage) (sym led.led) ∙ ill.1)
 
-  ill_text : (unread ≡ 0) × (r.stage ≡ Stage.IllHead) → (n : ℕ) → w ≡ Written.Bytes n → TextOf ill_head n out left
+  ill_text : IsDecided r unread → (n : ℕ) → w ≡ Some n → TextOf ill_head n out left
   ill_text ill n e = text_of ill_head (subst (λ (bs : List ℕ). Says bs ill_head) (append-nil led.bytes) (stays ill [])) n e
 
-  ill_head_text : (unread ≡ 0) × (r.stage ≡ Stage.IllHead) → (n : ℕ) → w ≡ Written.Bytes n → IllHeadText n out left
+  ill_head_text : IsDecided r unread → (n : ℕ) → w ≡ Some n → IllHeadText n out left
   ill_head_text ill n e =
       record {
         bytes = led.bytes;
@@ -93,34 +90,39 @@ module _ (t₀ : List ℕ) (zeros : t₀ ≡ replicate 4096 0) (r : Reader) (t o
         text = ill_text ill n e;
       }
 
-  pub answered : (end : End) → (end ≡ End.Failed → ⊥) → (end ≡ End.IllHead → (unread ≡ 0) × (r.stage ≡ Stage.IllHead))
-      → (n : ℕ) → w ≡ Written.Bytes n → Answered end n out left
-  answered End.Whole good ill n e = whole_text n e
-  answered End.IllHead good ill n e = ill_head_text (ill refl) n e
-  answered End.Failed good ill n e = absurd (good refl)
+  -- the source is at its end, or is decided before
+  module _ (before after : Option (List ℕ)) (k : Consumes before after led.bytes) (ends : IsAtEnd after ⊎ IsDecided r unread) (n : ℕ) (e : w ≡ Some n) where
+    pub answered : Answered (Ok n) out left
+    answered = ⊎_elim (λ _. inl (whole_text n e)) (λ ill. inr (ill_head_text ill n e)) ends
 
-  -- the same of the source's bytes
-  pub source_text : (before after : Option (List ℕ)) → Consumes before after led.bytes → (end : End) → (end ≡ End.Failed → ⊥)
-      → (end ≡ End.IllHead → (unread ≡ 0) × (r.stage ≡ Stage.IllHead)) → (end ≡ End.Whole → IsAtEnd after)
-      → (n : ℕ) → w ≡ Written.Bytes n → SourceText before n out left
-  source_text a b k End.Whole good ill at_end n e =
-      record {
-        content = said.content;
-        says = Consumes-whole a b led.bytes (λ (bs : List ℕ). Says bs said.content) k (at_end refl) said.says;
-        text = text_of said.content said.says n e;
-      }
-  source_text a b k End.IllHead good ill at_end n e =
-      record {
-        content = ill_head;
-        says = given_front a b led.bytes (λ (bs : List ℕ). Says bs ill_head) k (stays (ill refl));
-        text = ill_text (ill refl) n e;
-      }
-  source_text a b k End.Failed good ill at_end n e = absurd (good refl)
+    -- the same of the source's bytes
+    pub source_text : SourceText before n out left
+    source_text = ⊎_elim whole_source decided_source ends
+      where
+        whole_source : IsAtEnd after → SourceText before n out left
+        whole_source at_end =
+            record {
+              content = said.content;
+              says = Consumes-whole before after led.bytes (λ (bs : List ℕ). Says bs said.content) k at_end said.says;
+              text = text_of said.content said.says n e;
+            }
 
-  pub always_room : w ≡ Written.NoRoom → ⊥
-  always_room e =
-      let clash : Written.NoRoom ≡ Written.Bytes (length (bench_text said.content)) = sym e ∙ has_size said.content said.says in
-      let z : ◌≡◌ {A = ℕ} 0 1 = cc in omega arith
+        decided_source : IsDecided r unread → SourceText before n out left
+        decided_source ill =
+            record {
+              content = ill_head;
+              says = given_front before after led.bytes (λ (bs : List ℕ). Says bs ill_head) k (stays ill);
+              text = ill_text ill n e;
+            }
+
+  pub always_room : IsSome w
+  always_room = go w refl
+    where
+      go : (v : Option ℕ) → w ≡ v → IsSome v
+      go (Some n) e = refl
+      go None e =
+          let clash : ◌≡◌ {A = Option ℕ} None (Some (length (bench_text said.content))) = sym e ∙ has_size said.content said.says in
+          let z : ◌≡◌ {A = ℕ} 0 1 = cc in absurd (omega arith)
 
 -- the text lies inside its buffer
 module _ (n : ℕ) (out left : List ℕ) (room : length out ≡ 1122347) where
@@ -129,10 +131,8 @@ module _ (n : ℕ) (out left : List ℕ) (room : length out ≡ 1122347) where
       let same : length left ≡ length out = ap length a.begins ∙ length-sets out 0 a.text in
       omega (arith, text_room_lem x, ap length a.layout, a.size, room, same)
 
-  pub text_inside : (end : End) → (end ≡ End.Failed → ⊥) → Answered end n out left → n ≤ length left
-  text_inside End.Whole good a = inside a.content a.text
-  text_inside End.IllHead good a = inside ill_head a.text
-  text_inside End.Failed good a = absurd (good refl)
+  pub text_inside : Answered (Ok n) out left → n ≤ length left
+  text_inside a = ⊎_elim (λ (w : WholeText n out left). inside w.content w.text) (λ (i : IllHeadText n out left). inside ill_head i.text) a
 
 -- the text is what is written of the buffer
 front : (x : Content) (n : ℕ) (out left : List ℕ) → length out ≡ 1122347 → TextOf x n out left → take n left ≡ bench_text x

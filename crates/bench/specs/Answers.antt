@@ -1,22 +1,25 @@
 -- What the program prints, from the parts that the reader hands over.
-use Rattle.std.specs.Prelude.{◌≡◌, ℕ, ◌-◌, Bool, cond, List, eqb, length, take, drop, replicate}
+use Rattle.std.specs.Prelude.{◌≡◌, ℕ, ◌-◌, cond, List, eqb, length, take, drop, replicate, Option, Result, ⊤}
 use Rattle.std.specs.declared.option.Option.{Option}
 use Rattle.std.specs.Io.KnownBytes.{Consumes}
 use Rattle.meaning.specs.Tables.{at}
 use Rattle.meaning.specs.Boxes.{cells}
 use Rattle.meaning.specs.Recovery.{accepts, answer}
-use Rattle.meaning.specs.Calls.{recovery_number, recovery_left}
 use Rattle.bench_file.specs.Layout.{Head, longest_file, Content, Says, degrees_of, head_number, accepted_text, refused_text, bench_text}
 use Rattle.bench_file.specs.Steps.{state, none_read, fed}
 use Rattle.bench_file.specs.Printed.{printed, printed_size}
-use Rattle.bench_file.specs.Verdict.{verdict, narrowed, lowered}
-use Rattle.bench_file.specs.declared.answer.Written.{Written}
-use Rattle.bench_file.specs.declared.reader.Reading.{Reading}
+use Rattle.bench_file.specs.Verdict.{verdict, lowered}
+use Rattle.bench_file.specs.declared.reader.IllFormed.{IllFormed}
 use Rattle.bench_file.specs.declared.reader.Reader.{Reader}
+use Rattle.settings.specs.declared.Settings.{Settings}
 
 -- what the first two lines say
 abbrev pub asked : ℕ → ℕ → ℕ → List ℕ → Head
 asked width total degree support = record { width = width; total = total; degree = degree; support = support }
+
+-- the same from settings
+abbrev pub asked_by : Settings → Head
+asked_by s = asked s.bitwidth s.total s.max_degree s.support.now
 
 -- the same from the reader's table of their numbers, the degree cut to one byte
 abbrev pub low_head : List ℕ → Head
@@ -26,19 +29,13 @@ low_head hd = asked (at hd 0) (at hd 1) (lowered (at hd 2)) (take (at hd 3) (dro
 abbrev pub text_for : ℕ → List ℕ → List ℕ → List ℕ
 text_for number ds cs = cond (eqb number 0) (accepted_text ds cs) (refused_text number)
 
--- the text after recovery on the values `v` and a table `z` for the coefficients
-abbrev pub recovered_text : Reading → ℕ → Bool → Head → List ℕ → List ℕ → List ℕ
-recovered_text x settings exact h v z =
-    text_for (verdict x settings exact (recovery_number (narrowed h.total) (narrowed h.width) h.support (degrees_of h) v z)) (degrees_of h)
-    (recovery_left (narrowed h.total) (narrowed h.width) h.support (degrees_of h) v z)
-
 -- the number of the answer, for first lines h, a count of values, and the table t that begins with them
-unfoldable pub number_of : Reading → Head → ℕ → List ℕ → ℕ
+unfoldable pub number_of : Result ⊤ IllFormed → Head → ℕ → List ℕ → ℕ
 unfolding head_number cells accepts verdict
 number_of x h count t =
     verdict x (head_number h) (eqb count (cells (degrees_of h))) (cond (accepts h.width (degrees_of h) (take (cells (degrees_of h)) t)) 0 6)
 
-unfoldable pub text_of : Reading → Head → ℕ → List ℕ → List ℕ
+unfoldable pub text_of : Result ⊤ IllFormed → Head → ℕ → List ℕ → List ℕ
 unfolding number_of cells answer accepted_text refused_text
 text_of x h count t = text_for (number_of x h count t) (degrees_of h) (answer h.width (degrees_of h) (take (cells (degrees_of h)) t))
 
@@ -57,7 +54,7 @@ abbrev pub LedFrom : Option (List ℕ) → Option (List ℕ) → List ℕ → Re
 LedFrom before after t₀ r t left = (l : Led t₀ r t left) × Consumes before after l.bytes
 
 -- what is printed of the bytes that lead here is what the layout says of them: how many bytes of the buffer `out` it takes
-abbrev pub SaysText : Reader → List ℕ → List ℕ → Written → Type 0
+abbrev pub SaysText : Reader → List ℕ → List ℕ → Option ℕ → Type 0
 SaysText r t out w = (bs : List ℕ) (x : Content) → FedBy r t bs → Says bs x → w ≡ printed_size (bench_text x) out
 
 -- and what they are

@@ -1,11 +1,13 @@
 -- What becomes of an input.
-use Rattle.std.specs.Prelude.{◌≡◌, ℕ, ◌≤◌, List, ◌++◌, length, IfSome}
+use Rattle.std.specs.Prelude.{◌≡◌, ℕ, ◌≤◌, ◌⊎◌, List, ◌++◌, length, IfSome, Result, Ok, Err}
 use Rattle.std.specs.declared.option.Option.{Option}
 use Rattle.std.specs.Io.KnownBytes.{Appends}
 use Rattle.std.proofs.lemmas.List.Edits.{sets}
 use Rattle.bench_file.specs.Layout.{longest_file, Content, ill_head, Says, bench_text}
 use Rattle.bench.specs.GridAnswers.{Answering}
-use Rattle.bench.specs.declared.End.{End}
+use Rattle.bench_file.specs.declared.reader.Stage.{Stage}
+use Rattle.bench_file.specs.declared.reader.Reader.{Reader}
+use Rattle.bench.specs.declared.Failure.{Failure}
 
 -- the buffer begins with the n bytes of what is printed where a file says this, which for a grid is recovery's verdict
 pub record TextOf (content : Content) (n : ℕ) (out left : List ℕ) : Type 0 where
@@ -29,11 +31,14 @@ pub record IllHeadText (n : ℕ) (out left : List ℕ) : Type 0 where
   pub says : (more : List ℕ) → Says (bytes ++ more) ill_head
   pub text : TextOf ill_head n out left
 
--- or nothing is written
-abbrev pub Answered : End → ℕ → List ℕ → List ℕ → Type 0
-Answered End.Whole n out left = WholeText n out left
-Answered End.IllHead n out left = IllHeadText n out left
-Answered End.Failed n out left = left ≡ out
+-- nothing that follows is wanted: the first two lines are ill-formed, and no bytes are left of the longest file
+abbrev pub IsDecided : Reader → ℕ → Type 0
+IsDecided r left = (left ≡ 0) × (r.stage ≡ Stage.IllHead)
+
+-- what is written for an input, or nothing where it could not be read
+abbrev pub Answered : Result ℕ Failure → List ℕ → List ℕ → Type 0
+Answered (Ok n) out left = WholeText n out left ⊎ IllHeadText n out left
+Answered (Err f) out left = left ≡ out
 
 -- the buffer begins with the n bytes of what is printed of a source's bytes, where these are known
 pub record SourceText (known : Option (List ℕ)) (n : ℕ) (out left : List ℕ) : Type 0 where

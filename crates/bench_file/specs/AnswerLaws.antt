@@ -1,6 +1,6 @@
 -- The lines of an answer, stored number by number.
-use Rattle.std.specs.Prelude.{◌≡◌, refl, List, [], ◌∷◌, ◌++◌, ℕ, zero, suc, ◌+◌, ◌*◌, ◌-◌, ◌/◌, ◌≤◌, ◌<◌, length, drop, set, replicate}
-use Rattle.std.proofs.Common.{sym, ◌∙◌, ap, append-nil, ⊎_elim, div-lt_iff_lt-mul, arith, le-leb, length-append}
+use Rattle.std.specs.Prelude.{◌≡◌, refl, List, [], ◌∷◌, ◌++◌, ℕ, zero, suc, ◌+◌, ◌*◌, ◌-◌, ◌/◌, ◌≤◌, ◌<◌, length, drop, set, replicate, Some, None}
+use Rattle.std.proofs.Common.{sym, ◌∙◌, ap, ap₂, append-nil, ⊎_elim, div-lt_iff_lt-mul, arith, le-leb, length-append}
 use Rattle.std.proofs.lemmas.Bool.{lt-leb}
 use Rattle.std.proofs.lemmas.List.{length-replicate}
 use Rattle.std.proofs.lemmas.List.Edits.{sets}
@@ -9,32 +9,44 @@ use Rattle.meaning.specs.Boxes.{digits}
 use Rattle.bench_file.specs.Text.{number, numbers, line}
 use Rattle.bench_file.specs.HeadLines.{numbers-append, lt_or_ge}
 use Rattle.bench_file.specs.Layout.{non_zeros, term_lines, accepted_text, refused_text}
-use Rattle.bench_file.specs.Printed.{printed, printed_size, term_text}
+use Rattle.bench_file.specs.Printed.{printed, printed_size, term_text, Writes}
 use Rattle.bench_file.specs.PrintLaws.{sets_then, length-numbers, length-line, length_digits, length-term, terms_next, length-accepted}
-use Rattle.bench_file.specs.declared.answer.Written.{Written}
+use Rattle.bench_file.specs.declared.answer.Printer.{Printer}
 
 -- the text fits, or it does not
 pub printed_whole : (text out : List ℕ) → length text ≤ length out → printed text out ≡ sets out 0 text
 printed_whole text out h = simp (le-leb (length text) (length out) h)
 
-pub printed_size_lem : (text out : List ℕ) → length text ≤ length out → printed_size text out ≡ Written.Bytes (length text)
+pub printed_size_lem : (text out : List ℕ) → length text ≤ length out → printed_size text out ≡ Some (length text)
 printed_size_lem text out h = simp (le-leb (length text) (length out) h)
 
 pub printed_none : (text out : List ℕ) → length out < length text → printed text out ≡ out
 printed_none text out h = simp (lt-leb (length text) (length out) h)
 
-pub printed_no_size : (text out : List ℕ) → length out < length text → printed_size text out ≡ Written.NoRoom
+pub printed_no_size : (text out : List ℕ) → length out < length text → printed_size text out ≡ None
 printed_no_size text out h = simp (lt-leb (length text) (length out) h)
 
+-- a text was written from the beginning of a buffer with room for it
+module _ (a b : Printer) (text out left : List ℕ) (w : Writes a b text) (start : a.size ≡ 0) where
+  pub writes-size : length text ≤ length out → Some b.size ≡ printed_size text out
+  writes-size room = ap Some (omega (arith, w.size, start)) ∙ sym (printed_size_lem text out room)
+
+  pub writes-whole : a.out.now ≡ out → left ≡ b.out.now → length text ≤ length out → left ≡ printed text out
+  writes-whole lent back room =
+      back ∙ w.leaves ∙ ap₂ (λ (l : List ℕ) (k : ℕ). sets l k text) lent start ∙ sym (printed_whole text out room)
+
 -- one number more, and the end of the line
+pub numbers-one-more : (ns : List ℕ) (c : ℕ) → numbers ns ++ number c ≡ numbers (ns ++ (c ∷ []))
+unfolding numbers
+numbers-one-more ns c = ap (numbers ns ++◌) (sym (append-nil (number c))) ∙ sym (numbers-append ns (c ∷ []))
+
 pub number_stored : (ns : List ℕ) (c : ℕ) (out out₁ out₂ : List ℕ) (i k : ℕ) → out₁ ≡ sets out i (numbers ns) → k ≡ i + 21 * length ns
     → out₂ ≡ sets out₁ k (number c) → out₂ ≡ sets out i (numbers (ns ++ (c ∷ [])))
-unfolding numbers
 number_stored ns c out out₁ out₂ i k e h f =
     f
     ∙ ap (λ (x : List ℕ). sets x k (number c)) e
     ∙ sets_then (numbers ns) (number c) out i k (omega (arith, h, length-numbers ns))
-    ∙ ap (sets out i) (ap (numbers ns ++◌) (sym (append-nil (number c))) ∙ sym (numbers-append ns (c ∷ [])))
+    ∙ ap (sets out i) (numbers-one-more ns c)
 
 pub line_stored : (ns out out₁ : List ℕ) (i k : ℕ) → out₁ ≡ sets out i (numbers ns) → k ≡ i + 21 * length ns → set out₁ k 10 ≡ sets out i (line ns)
 unfolding line
@@ -53,6 +65,10 @@ pub length-term-cube : (k d n c : ℕ) → (c ≡ 0 → ⊥) → length (term_te
 length-term-cube k d n zero h = absurd (h refl)
 length-term-cube k d n (suc c) h = length-term (replicate k d) n c ∙ ap (λ (x : ℕ). 21 * x + 22) (length-replicate k d)
 
+pub term_line : (ds : List ℕ) (n c : ℕ) → (c ≡ 0 → ⊥) → (numbers (digits ds n) ++ number c) ++ (10 ∷ []) ≡ term_text ds n c
+unfolding line
+term_line ds n c h = ap (◌++ (10 ∷ [])) (numbers-one-more (digits ds n) c) ∙ sym (term_of_pos ds n c h)
+
 pub term_stored : (k d n c : ℕ) (out out₁ out₂ : List ℕ) (i middle end : ℕ) → (c ≡ 0 → ⊥)
     → out₁ ≡ sets out i (numbers (digits (replicate k d) n)) → middle ≡ i + 21 * k → out₂ ≡ sets out₁ middle (number c) → end ≡ middle + 21
     → set out₂ end 10 ≡ sets out i (term_text (replicate k d) n c)
@@ -64,10 +80,6 @@ term_stored k d n c out out₁ out₂ i middle end h e m f g =
     ∙ ap (sets out i) (sym (term_of_pos (replicate k d) n c h))
 
 -- the terms from a cell on
-pub terms_next_length : (ds cs : List ℕ) (i : ℕ) → i < length cs
-    → length (term_lines ds i (drop i cs)) ≡ length (term_text ds i (at cs i)) + length (term_lines ds (i + 1) (drop (i + 1) cs))
-terms_next_length ds cs i h = ap length (terms_next ds cs i h) ∙ length-append (term_text ds i (at cs i)) (term_lines ds (i + 1) (drop (i + 1) cs))
-
 pub terms_stored : (ds cs : List ℕ) (i : ℕ) (out out₁ : List ℕ) (j k : ℕ) → i < length cs
     → out₁ ≡ sets out j (term_text ds i (at cs i)) → k ≡ j + length (term_text ds i (at cs i))
     → sets out j (term_lines ds i (drop i cs)) ≡ sets out₁ k (term_lines ds (i + 1) (drop (i + 1) cs))
@@ -76,13 +88,20 @@ terms_stored ds cs i out out₁ j k h e f =
     ∙ sym (sets_then (term_text ds i (at cs i)) (term_lines ds (i + 1) (drop (i + 1) cs)) out j k f)
     ∙ ap (λ (x : List ℕ). sets x k (term_lines ds (i + 1) (drop (i + 1) cs))) (sym e)
 
--- a refusal
+-- a refusal, and the first line of an accepted answer
+pub refused_line : (n : ℕ) → number n ++ (10 ∷ []) ≡ refused_text n
+unfolding refused_text line numbers
+refused_line n = ap (◌++ (10 ∷ [])) (sym (append-nil (number n)))
+
+pub accepted_lines : (ds cs : List ℕ) → ((number 0 ++ number (non_zeros cs)) ++ (10 ∷ [])) ++ term_lines ds 0 cs ≡ accepted_text ds cs
+unfolding accepted_text line numbers
+accepted_lines ds cs = ap (λ (x : List ℕ). ((number 0 ++ x) ++ (10 ∷ [])) ++ term_lines ds 0 cs) (sym (append-nil (number (non_zeros cs))))
+
 pub refused_stored : (n : ℕ) (out out₁ : List ℕ) (end : ℕ) → out₁ ≡ sets out 0 (number n) → end ≡ 0 + 21 → set out₁ end 10 ≡ sets out 0 (refused_text n)
 unfolding refused_text numbers
 refused_stored n out out₁ end e h =
     line_stored (n ∷ []) out out₁ 0 end (number_stored [] n out out out₁ 0 0 refl (omega arith) e) (omega arith)
 
--- an accepted answer: its first line, then its terms
 pub accepted_stored : (ds cs : List ℕ) (out out₁ out₂ out₃ : List ℕ) (first second end : ℕ) → out₁ ≡ sets out 0 (number 0) → first ≡ 0 + 21
     → out₂ ≡ sets out₁ first (number (non_zeros cs)) → second ≡ first + 21 → out₃ ≡ sets (set out₂ second 10) (second + 1) (term_lines ds 0 cs)
     → out₃ ≡ sets out 0 (accepted_text ds cs)

@@ -1,6 +1,6 @@
 -- In the first two lines: unless the reader found them ill-formed, the bytes so far are the text of the numbers that it holds and of the columns of an
 -- open number.
-use Rattle.std.specs.Prelude.{◌≡◌, refl, Bool, true, false, ◌⊎◌, ℕ, ◌+◌, ◌^◌, ◌≤◌, ◌<◌, ltb, eqb, length, take, set}
+use Rattle.std.specs.Prelude.{◌≡◌, refl, Bool, true, false, ◌⊎◌, ℕ, ◌+◌, ◌^◌, ◌≤◌, ◌<◌, ltb, eqb, length, take, set, Option, Some, None}
 use Rattle.std.proofs.Math.Path.{sym, ap}
 use Rattle.std.proofs.Common.{◌∙◌, subst, inl, inr, ⊎_elim, add-one, arith, ltb-true, ltb-false, eqb-true, take-suc-set}
 use mathlib.Core.List.{List, [], ◌∷◌, ◌++◌, append_assoc, append-nil}
@@ -12,7 +12,6 @@ use Rattle.bench_file.specs.ColumnLaws.{digit_of, column_of, column_text, column
 use Rattle.bench_file.specs.Layout.{Words, none, next}
 use Rattle.bench_file.specs.Steps.{reader, opened, head_column_of}
 use Rattle.bench_file.specs.StepLaws.{with_head_room, with_head_full, head_opens, head_opens_ill, head_closes, head_closes_ill}
-use Rattle.bench_file.specs.declared.number.Field.{Field}
 use Rattle.bench_file.specs.declared.reader.Stage.{Stage}
 use Rattle.bench_file.specs.declared.reader.Reader.{Reader}
 
@@ -65,7 +64,7 @@ module _ (done fs bs : List ℕ) (r : Reader) (b : ℕ) (s : InHead done fs bs r
       ∙ append_assoc (done ++ numbers s.ns) (columns r.column r.shown) (b ∷ [])
       ∙ ap (done ++ numbers s.ns ++◌) e
 
-  head_opened : (v : ℕ) → r.column < 20 → with_column_of r.shown b ≡ Field.Number v → InHead done fs (bs ++ (b ∷ [])) (opened r v)
+  head_opened : (v : ℕ) → r.column < 20 → with_column_of r.shown b ≡ Some v → InHead done fs (bs ++ (b ∷ [])) (opened r v)
   head_opened v h e =
       record {
         ns = s.ns;
@@ -80,7 +79,7 @@ module _ (done fs bs : List ℕ) (r : Reader) (b : ℕ) (s : InHead done fs bs r
             (column_text r.column r.shown b v (column_of r.shown b v e) ∙ ap (λ (x : ℕ). columns x v) (sym (add-one r.column)));
       }
 
-  head_taken : (n : ℕ) → 20 ≤ r.column → r.got < 24 → with_last_digit r.shown b ≡ Field.Number n
+  head_taken : (n : ℕ) → 20 ≤ r.column → r.got < 24 → with_last_digit r.shown b ≡ Some n
       → InHead done fs (bs ++ (b ∷ [])) (reader r.stage 0 0 (r.got + 1) (set r.head r.got n) r.count)
   unfolding columns numbers
   head_taken n h g e =
@@ -107,7 +106,7 @@ module _ (done fs bs : List ℕ) (r : Reader) (b : ℕ) (s : InHead done fs bs r
   pub head_next : AfterHead done fs (bs ++ (b ∷ [])) r (head_column_of r b)
   head_next = ⊎_elim open' close' (lt_or_ge r.column 20)
     where
-      take_in : (n : ℕ) → 20 ≤ r.column → with_last_digit r.shown b ≡ Field.Number n → (r.got < 24) ⊎ (24 ≤ r.got)
+      take_in : (n : ℕ) → 20 ≤ r.column → with_last_digit r.shown b ≡ Some n → (r.got < 24) ⊎ (24 ≤ r.got)
           → AfterHead done fs (bs ++ (b ∷ [])) r (head_column_of r b)
       take_in n h e (inl g) =
           subst (AfterHead done fs (bs ++ (b ∷ [])) r) (sym (head_closes r b n h e ∙ with_head_room r n g))
@@ -115,14 +114,14 @@ module _ (done fs bs : List ℕ) (r : Reader) (b : ℕ) (s : InHead done fs bs r
       take_in n h e (inr g) =
           subst (AfterHead done fs (bs ++ (b ∷ [])) r) (sym (head_closes r b n h e ∙ with_head_full r n g)) (ends refl)
 
-      opens : (f : Field) → r.column < 20 → with_column_of r.shown b ≡ f → AfterHead done fs (bs ++ (b ∷ [])) r (head_column_of r b)
-      opens (Field.Number v) h e =
+      opens : (f : Option ℕ) → r.column < 20 → with_column_of r.shown b ≡ f → AfterHead done fs (bs ++ (b ∷ [])) r (head_column_of r b)
+      opens (Some v) h e =
           subst (AfterHead done fs (bs ++ (b ∷ [])) r) (sym (head_opens r b v h e)) (goes_on refl refl (head_opened v h e))
-      opens Field.Ill h e = subst (AfterHead done fs (bs ++ (b ∷ [])) r) (sym (head_opens_ill r b h e)) (ends refl)
+      opens None h e = subst (AfterHead done fs (bs ++ (b ∷ [])) r) (sym (head_opens_ill r b h e)) (ends refl)
 
-      closes : (f : Field) → 20 ≤ r.column → with_last_digit r.shown b ≡ f → AfterHead done fs (bs ++ (b ∷ [])) r (head_column_of r b)
-      closes (Field.Number n) h e = take_in n h e (lt_or_ge r.got 24)
-      closes Field.Ill h e = subst (AfterHead done fs (bs ++ (b ∷ [])) r) (sym (head_closes_ill r b h e)) (ends refl)
+      closes : (f : Option ℕ) → 20 ≤ r.column → with_last_digit r.shown b ≡ f → AfterHead done fs (bs ++ (b ∷ [])) r (head_column_of r b)
+      closes (Some n) h e = take_in n h e (lt_or_ge r.got 24)
+      closes None h e = subst (AfterHead done fs (bs ++ (b ∷ [])) r) (sym (head_closes_ill r b h e)) (ends refl)
 
       open' : r.column < 20 → AfterHead done fs (bs ++ (b ∷ [])) r (head_column_of r b)
       open' h = opens (with_column_of r.shown b) h refl

@@ -1,5 +1,5 @@
 -- The text of a number: 21 columns, which are read back as that number and as nothing else, and which can be filled from the right.
-use Rattle.std.specs.Prelude.{◌≡◌, refl, List, [], ◌∷◌, ◌++◌, ℕ, zero, suc, ◌+◌, ◌/◌, ◌%◌, ◌^◌, ◌≤◌, ◌<◌, length, take, drop, set}
+use Rattle.std.specs.Prelude.{◌≡◌, refl, List, [], ◌∷◌, ◌++◌, ℕ, zero, suc, ◌+◌, ◌/◌, ◌%◌, ◌^◌, ◌≤◌, ◌<◌, length, take, drop, set, Option, Some, None}
 use Rattle.std.proofs.Common.{sym, ◌∙◌, ap, ap₂, subst, append_assoc, arith, add-one, length-append, length-set, length-take, drop_of_length-le, le_refl, not-suc-le-zero, take_at, drop-cons, get_or-set_same, drop-set-lt, get_or-take}
 use Rattle.std.proofs.Math.Seq.{split_at}
 use Rattle.std.proofs.lemmas.List.{get_or_at}
@@ -7,7 +7,6 @@ use Rattle.meaning.specs.Tables.{at}
 use Rattle.bench_file.specs.Text.{shown, columns, number}
 use Rattle.bench_file.specs.Columns.{Reads, is_number, is_ill, with_last_digit, with_column_of, and_then, with_columns}
 use Rattle.bench_file.specs.ColumnLaws.{columns-shown, columns_text, digit_shown, digit_text, digit_of, ill_is_no_number}
-use Rattle.bench_file.specs.declared.number.Field.{Field}
 
 pub length-columns : (k n : ℕ) → length (columns k n) ≡ k
 unfolding columns
@@ -27,59 +26,66 @@ pub number_last : (n : ℕ) → at (number n) 20 ≡ 48 + n % 10
 unfolding number
 number_last n = get_or_at (columns 20 (n / 10)) (48 + n % 10) [] 0 20 (length-columns 20 (n / 10))
 
-pub number-shown : (n : ℕ) → n < 2 ^ 64 → with_columns 0 (take 20 (number n)) ≡ Field.Number (n / 10)
+pub number-shown : (n : ℕ) → n < 2 ^ 64 → with_columns 0 (take 20 (number n)) ≡ Some (n / 10)
 number-shown n h = rw (number-columns n) (columns-shown 20 (n / 10) (omega arith) (omega arith))
 
 -- bytes whose first 20 columns do not read are the text of no number
-pub reads_ill_columns : (bs : List ℕ) → with_columns 0 (take 20 bs) ≡ Field.Ill → Reads bs Field.Ill
+pub reads_ill_columns : (bs : List ℕ) → with_columns 0 (take 20 bs) ≡ None → Reads bs None
 reads_ill_columns bs e =
     is_ill (λ n h t. ill_is_no_number (sym e ∙ ap (λ (x : List ℕ). with_columns 0 (take 20 x)) t ∙ number-shown n h))
 
-pub reads_ill_length : (bs : List ℕ) → (length bs ≡ 21 → ⊥) → Reads bs Field.Ill
+pub reads_ill_length : (bs : List ℕ) → (length bs ≡ 21 → ⊥) → Reads bs None
 reads_ill_length bs e = is_ill (λ n h t. e (ap length t ∙ length-number n))
 
 -- where they do, the last column decides
-pub reads_last : (bs : List ℕ) (v : ℕ) → length bs ≡ 21 → with_columns 0 (take 20 bs) ≡ Field.Number v → Reads bs (with_last_digit v (at bs 20))
+pub reads_last : (bs : List ℕ) (v : ℕ) → length bs ≡ 21 → with_columns 0 (take 20 bs) ≡ Some v → Reads bs (with_last_digit v (at bs 20))
 unfolding columns
 reads_last bs v e h = go (with_last_digit v (at bs 20)) refl
   where
     front : take 20 bs ≡ columns 20 v
     front = columns_text (take 20 bs) 0 20 0 v (simp length-take (omega arith)) h
 
-    go : (f : Field) → with_last_digit v (at bs 20) ≡ f → Reads bs f
-    go (Field.Number n) d =
+    go : (f : Option ℕ) → with_last_digit v (at bs 20) ≡ f → Reads bs f
+    go (Some n) d =
         is_number (digit_of v (at bs 20) n d).small
         (split_at bs 20 0 (omega arith)
         ∙ ap₂ (λ (x y : List ℕ). x ++ at bs 20 ∷ y) front (drop_of_length-le bs {i = 21} (omega arith))
         ∙ digit_text v (at bs 20) n d)
-    go Field.Ill d =
+    go None d =
         is_ill (λ n s t.
-        let high : Field.Number v ≡ Field.Number (n / 10) = sym h ∙ ap (λ (x : List ℕ). with_columns 0 (take 20 x)) t ∙ number-shown n s in
+        let high : Some v ≡ Some (n / 10) = sym h ∙ ap (λ (x : List ℕ). with_columns 0 (take 20 x)) t ∙ number-shown n s in
         let same : v ≡ n / 10 = cc in
         let low : at bs 20 ≡ 48 + n % 10 = ap (λ (x : List ℕ). at x 20) t ∙ number_last n in
         ill_is_no_number (sym d ∙ ap₂ with_last_digit same low ∙ digit_shown n s))
 
--- one column more is read
+-- one column more is read, and none
+pub columns_turn : (cs : List ℕ) (v i : ℕ) → i < length cs
+    → with_columns v (drop i cs) ≡ and_then (with_column_of v (at cs i)) (λ w. with_columns w (drop (i + 1) cs))
+unfolding with_columns
+columns_turn cs v i h = rw (add-one i, drop-cons cs i 0 h)
+
+pub columns_none : (cs : List ℕ) (v i : ℕ) → length cs ≤ i → with_columns v (drop i cs) ≡ Some v
+unfolding with_columns
+columns_none cs v i h = rw (drop_of_length-le cs h)
+
+-- of the first 20 columns
 pub columns_next : (bs : List ℕ) (v i : ℕ) → length bs ≡ 21 → i < 20
     → with_columns v (drop i (take 20 bs)) ≡ and_then (with_column_of v (at bs i)) (λ w. with_columns w (drop (i + 1) (take 20 bs)))
-unfolding with_columns
-columns_next bs v i e h =
-    rw (add-one i, drop-cons (take 20 bs) i 0 (simp length-take (omega arith)), get_or-take 20 bs i 0 h)
+columns_next bs v i e h = columns_turn (take 20 bs) v i (simp length-take (omega arith)) ∙ rw (get_or-take 20 bs i 0 h)
 
-pub columns_next_number : (bs : List ℕ) (v i w : ℕ) → length bs ≡ 21 → i < 20 → with_column_of v (at bs i) ≡ Field.Number w
+pub columns_next_number : (bs : List ℕ) (v i w : ℕ) → length bs ≡ 21 → i < 20 → with_column_of v (at bs i) ≡ Some w
     → with_columns v (drop i (take 20 bs)) ≡ with_columns w (drop (i + 1) (take 20 bs))
 unfolding and_then
 columns_next_number bs v i w e h d = columns_next bs v i e h ∙ rw d
 
-pub columns_next_ill : (bs : List ℕ) (v i : ℕ) → length bs ≡ 21 → i < 20 → with_column_of v (at bs i) ≡ Field.Ill
-    → with_columns v (drop i (take 20 bs)) ≡ Field.Ill
+pub columns_next_ill : (bs : List ℕ) (v i : ℕ) → length bs ≡ 21 → i < 20 → with_column_of v (at bs i) ≡ None
+    → with_columns v (drop i (take 20 bs)) ≡ None
 unfolding and_then
 columns_next_ill bs v i e h d = columns_next bs v i e h ∙ rw d
 
 -- none is left
-pub columns-end : (bs : List ℕ) (v i : ℕ) → length bs ≡ 21 → 20 ≤ i → with_columns v (drop i (take 20 bs)) ≡ Field.Number v
-unfolding with_columns
-columns-end bs v i e h = rw (drop_of_length-le (take 20 bs) {i = i} (simp length-take (omega arith)))
+pub columns-end : (bs : List ℕ) (v i : ℕ) → length bs ≡ 21 → 20 ≤ i → with_columns v (drop i (take 20 bs)) ≡ Some v
+columns-end bs v i e h = columns_none (take 20 bs) v i (simp length-take (omega arith))
 
 pub shown_of_pos : (n : ℕ) → (n ≡ 0 → ⊥) → 48 + n % 10 ≡ shown n
 shown_of_pos zero h = absurd (h refl)

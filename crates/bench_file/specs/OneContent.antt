@@ -1,5 +1,5 @@
 -- The bytes of a file say one thing only.
-use Rattle.std.specs.Prelude.{◌≡◌, refl, true, List, [], ◌∷◌, ◌++◌, ℕ, suc, ◌+◌, ◌≤◌, ◌<◌, min, length, take, drop}
+use Rattle.std.specs.Prelude.{◌≡◌, refl, true, List, [], ◌∷◌, ◌++◌, ℕ, suc, ◌+◌, ◌≤◌, ◌<◌, min, length, take, drop, Option, Some, None}
 use Rattle.std.proofs.Common.{sym, ◌∙◌, ap, ap₂, ⊎_elim, arith, length-append, take_at}
 use Rattle.std.proofs.lemmas.List.Edits.{sets, sets-eq}
 use Rattle.std.proofs.Math.Seq.{drop-append_seam}
@@ -10,7 +10,6 @@ use Rattle.bench_file.specs.StepLaws.{step_value, step-line-end, step_ill_values
 use Rattle.bench_file.specs.Runs.{head_read, head_of_held, fed_head}
 use Rattle.bench_file.specs.HeadLines.{lt_or_ge, eq_or_ne}
 use Rattle.bench_file.specs.ReaderLaws.{past, past-step, false_is_not_true, read_back}
-use Rattle.bench_file.specs.declared.number.Field.{Field}
 use Rattle.bench_file.specs.declared.reader.Stage.{Stage}
 use Rattle.bench_file.specs.declared.reader.Reader.{Reader}
 
@@ -18,13 +17,13 @@ use Rattle.bench_file.specs.declared.reader.Reader.{Reader}
 keeps_value : (r : Reader) (b : ℕ) → (value_byte_of r b).head ≡ r.head
 keeps_value r b = ⊎_elim (λ h. opens (with_column_of r.shown b) h refl) (λ h. closes (with_last_digit r.shown b) h refl) (lt_or_ge r.column 20)
   where
-    opens : (f : Field) → r.column < 20 → with_column_of r.shown b ≡ f → (value_byte_of r b).head ≡ r.head
-    opens (Field.Number v) h q = ap (λ (x : Reader). x.head) (value-opens r b v h q)
-    opens Field.Ill h q = ap (λ (x : Reader). x.head) (value-opens-ill r b h q)
+    opens : (f : Option ℕ) → r.column < 20 → with_column_of r.shown b ≡ f → (value_byte_of r b).head ≡ r.head
+    opens (Some v) h q = ap (λ (x : Reader). x.head) (value-opens r b v h q)
+    opens None h q = ap (λ (x : Reader). x.head) (value-opens-ill r b h q)
 
-    closes : (f : Field) → 20 ≤ r.column → with_last_digit r.shown b ≡ f → (value_byte_of r b).head ≡ r.head
-    closes (Field.Number n) h q = ap (λ (x : Reader). x.head) (value-closes r b n h q)
-    closes Field.Ill h q = ap (λ (x : Reader). x.head) (value-closes-ill r b h q)
+    closes : (f : Option ℕ) → 20 ≤ r.column → with_last_digit r.shown b ≡ f → (value_byte_of r b).head ≡ r.head
+    closes (Some n) h q = ap (λ (x : Reader). x.head) (value-closes r b n h q)
+    closes None h q = ap (λ (x : Reader). x.head) (value-closes-ill r b h q)
 
 keeps_step : (s : State) (b : ℕ) → past s.reader.stage ≡ true → (step s b).reader.head ≡ s.reader.head
 keeps_step s b p = go s.reader.stage refl p

@@ -1,14 +1,18 @@
 -- Texts stored one after the other, and their lengths.
-use Rattle.std.specs.Prelude.{◌≡◌, refl, List, [], ◌∷◌, ◌++◌, ℕ, zero, suc, ◌+◌, ◌*◌, ◌-◌, ◌/◌, ◌%◌, ◌≤◌, ◌<◌, length, take, drop, set, replicate, eqb, cond}
-use Rattle.std.proofs.Common.{sym, ◌∙◌, ap, ap₂, append_assoc, add-zero, suc-mul, add_comm, add-one, arith, length-append, drop_of_length-le, eq-eqb, drop-cons, drop-drop}
+use Rattle.std.specs.Prelude.{◌≡◌, refl, List, [], ◌∷◌, ◌++◌, ℕ, zero, suc, ◌+◌, ◌*◌, ◌-◌, ◌/◌, ◌%◌, ◌≤◌, ◌<◌, length, take, drop, set, replicate, eqb, cond, not, count_by}
+use Rattle.std.proofs.Common.{subst, suc-ne-zero, ne_eqb, sym, ◌∙◌, ap, ap₂, append_assoc, add-zero, suc-mul, add_comm, add-one, arith, length-append, drop_of_length-le, eq-eqb, drop-cons, drop-drop}
 use Rattle.theory.specs.Parts.{part, put, length_part}
 use Rattle.std.proofs.lemmas.List.Edits.{sets, sets-eq}
+use Rattle.std.proofs.Math.Seq.{length-sets}
+use Rattle.std.proofs.lemmas.List.{length-replicate}
+use Rattle.std.proofs.lemmas.List.Recursion.{is_count_by}
 use Rattle.meaning.specs.Tables.{at}
 use Rattle.meaning.specs.Boxes.{digits}
 use Rattle.bench_file.specs.Text.{number, numbers, line}
 use Rattle.bench_file.specs.NumberLaws.{length-number}
 use Rattle.bench_file.specs.Layout.{Head, GoodHead, head_text, values_text, longest_file, non_zeros, term_lines, accepted_text, refused_text}
-use Rattle.bench_file.specs.Printed.{term_text, one_term_of}
+use Rattle.bench_file.specs.Printed.{term_text, one_term_of, Writes}
+use Rattle.bench_file.specs.declared.answer.Printer.{Printer}
 
 -- two texts one after the other
 pub sets_append : (xs ys l : List ℕ) (i : ℕ) → sets l i (xs ++ ys) ≡ sets (sets l i xs) (i + length xs) ys
@@ -33,6 +37,9 @@ pub length_digits : (ds : List ℕ) (n : ℕ) → length (digits ds n) ≡ lengt
 unfolding digits
 length_digits [] n = refl
 length_digits (d ∷ ds) n = ap suc (length_digits ds (n / suc d))
+
+pub length-exponents : (k d n : ℕ) → length (numbers (digits (replicate k d) n)) ≡ 21 * k
+length-exponents k d n = length-numbers (digits (replicate k d) n) ∙ simp (length_digits, length-replicate)
 
 pub length-term : (ds : List ℕ) (n c : ℕ) → length (term_text ds n (suc c)) ≡ 21 * length ds + 22
 length-term ds n c =
@@ -98,6 +105,15 @@ pub non_zeros-end : (cs : List ℕ) (i : ℕ) → length cs ≤ i → non_zeros 
 unfolding non_zeros
 non_zeros-end cs i h = rw (drop_of_length-le cs h)
 
+-- the count by a test
+pub non_zeros_count : (cs : List ℕ) → non_zeros cs ≡ count_by (λ c. not (eqb c 0)) cs
+unfolding non_zeros
+non_zeros_count = is_count_by non_zeros (λ c. not (eqb c 0)) refl step
+  where
+    step : (c : ℕ) (cs : List ℕ) → non_zeros (c ∷ cs) ≡ cond (not (eqb c 0)) (1 + non_zeros cs) (non_zeros cs)
+    step zero cs = refl
+    step (suc c) cs = let other : (suc c ≡ 0 → ⊥) = λ e. suc-ne-zero c e in simp (ne_eqb (suc c) 0 other) (omega arith)
+
 pub non_zeros_few : (cs : List ℕ) → non_zeros cs ≤ length cs
 unfolding non_zeros
 non_zeros_few [] = omega arith
@@ -112,6 +128,10 @@ pub terms_end : (ds cs : List ℕ) (i : ℕ) → length cs ≤ i → term_lines 
 unfolding term_lines
 terms_end ds cs i h = rw (drop_of_length-le cs h)
 
+pub terms_next_length : (ds cs : List ℕ) (i : ℕ) → i < length cs
+    → length (term_lines ds i (drop i cs)) ≡ length (term_text ds i (at cs i)) + length (term_lines ds (i + 1) (drop (i + 1) cs))
+terms_next_length ds cs i h = ap length (terms_next ds cs i h) ∙ length-append (term_text ds i (at cs i)) (term_lines ds (i + 1) (drop (i + 1) cs))
+
 -- a number in a lent part of 21 bytes
 pub number-in-part : (t : List ℕ) (a n : ℕ) (ys : List ℕ) → a + 21 ≤ length t
     → ys ≡ cond (eqb (length (part a (a + 21) t)) 21) (number n) (part a (a + 21) t)
@@ -123,6 +143,16 @@ number-in-part t a n ys h e =
     ap₂ (λ (x y : List ℕ). take a t ++ (x ++ y)) whole (drop-drop (a + 21 - a) a t ∙ ap (λ (k : ℕ). drop k t) there)
     ∙ sym (append_assoc (take a t) (number n) (drop (a + length (number n)) t))
     ∙ sym (sets-eq (number n) t a (omega (arith, length-number n)))
+
+-- one exponent more, and none
+pub digits_turn : (d base left after rest : ℕ) → base ≡ d + 1 → left ≡ after + 1
+    → number (rest % base) ++ numbers (digits (replicate after d) (rest / base)) ≡ numbers (digits (replicate left d) rest)
+digits_turn d base left after rest e h = rw (e, h, add-one d, add-one after) (sym (digits_next d after rest))
+
+pub digits_none : (d left rest : ℕ) → left ≤ 0 → [] ≡ numbers (digits (replicate left d) rest)
+unfolding digits numbers
+digits_none d zero rest h = refl
+digits_none d (suc k) rest h = absurd (omega arith)
 
 -- one exponent more, as the loop has it
 pub exponents_next : (out : List ℕ) (next d left rest : ℕ) → 0 < left
@@ -139,3 +169,22 @@ pub exponents_end : (out : List ℕ) (next d left rest : ℕ) → left ≤ 0 →
 unfolding digits numbers
 exponents_end out next d zero rest h = refl
 exponents_end out next d (suc k) rest h = absurd (omega arith)
+
+-- nothing is written, one text after the other, and a text with another name
+pub writes_none : (a : Printer) → Writes a a []
+writes_none a = record { same_buffer = refl; size = sym (add-zero a.size); leaves = refl }
+
+pub writes_then : (a b c : Printer) (xs ys : List ℕ) → Writes a b xs → Writes b c ys → Writes a c (xs ++ ys)
+writes_then a b c xs ys v w =
+    record {
+      same_buffer = w.same_buffer ∙ v.same_buffer;
+      size = omega (arith, v.size, w.size, length-append xs ys);
+      leaves = w.leaves ∙ ap₂ (λ (l : List ℕ) (k : ℕ). sets l k ys) v.leaves v.size ∙ sym (sets_append xs ys a.out.now a.size);
+    }
+
+pub writes_same : (a b : Printer) (xs ys : List ℕ) → xs ≡ ys → Writes a b xs → Writes a b ys
+writes_same a b xs ys e w = subst (Writes a b) e w
+
+-- the buffer keeps its length
+pub writes_length : (a b : Printer) (xs : List ℕ) → Writes a b xs → length b.out.now ≡ length a.out.now
+writes_length a b xs w = ap length w.leaves ∙ length-sets a.out.now a.size xs

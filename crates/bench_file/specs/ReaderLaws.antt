@@ -1,7 +1,7 @@
 -- What the reader finds of a whole input is what its bytes say: `read_as`; first lines that it has found ill-formed are so whatever follows: `ill_head_stays`.
 -- A text of the layout leads the reader to what it says (the runs), and what the reader holds is the text of the bytes that it was fed (its standing);
 -- where it found an ill-formed line no text of the layout can have been fed, since such a text would have led elsewhere.
-use Rattle.std.specs.Prelude.{◌≡◌, Bool, true, false, ℕ, suc, ◌+◌, ◌≤◌, ◌<◌, min, length, set}
+use Rattle.std.specs.Prelude.{◌≡◌, Bool, true, false, ℕ, suc, ◌+◌, ◌≤◌, ◌<◌, min, length, set, Option, Some, None, Ok, Err, ⊤, Result}
 use Rattle.std.proofs.Math.Path.{refl, ap, subst}
 use Rattle.std.proofs.Common.{sym, ◌∙◌, ap₂, ⊎_elim, add-one, arith, eq-eqb, ne_eqb, lt-ltb, le-ltb}
 use mathlib.Core.List.{List, [], ◌∷◌, ◌++◌, append_assoc, append-nil}
@@ -17,10 +17,9 @@ use Rattle.bench_file.specs.HeadLines.{lt_or_ge, eq_or_ne}
 use Rattle.bench_file.specs.ValueLines.{InValues}
 use Rattle.bench_file.specs.Reading.{ReadAs, read_ill_head, read_ill_values, read_whole}
 use Rattle.bench_file.specs.Standing.{StandsAt, stands_none, stands_fed}
-use Rattle.bench_file.specs.declared.number.Field.{Field}
 use Rattle.bench_file.specs.declared.reader.Stage.{Stage}
 use Rattle.bench_file.specs.declared.reader.Reader.{Reader}
-use Rattle.bench_file.specs.declared.reader.Reading.{Reading}
+use Rattle.bench_file.specs.declared.reader.IllFormed.{IllFormed}
 
 pub false_is_not_true : false ≡ true → ⊥
 false_is_not_true e = let z : ◌≡◌ {A = ℕ} 0 1 = cc in omega arith
@@ -38,13 +37,13 @@ past Stage.IllValues = true
 past_value : (r : Reader) (b : ℕ) → r.stage ≡ Stage.Value → past (value_byte_of r b).stage ≡ true
 past_value r b e = ⊎_elim (λ h. opens (with_column_of r.shown b) h refl) (λ h. closes (with_last_digit r.shown b) h refl) (lt_or_ge r.column 20)
   where
-    opens : (f : Field) → r.column < 20 → with_column_of r.shown b ≡ f → past (value_byte_of r b).stage ≡ true
-    opens (Field.Number v) h q = ap (λ (x : Reader). past x.stage) (value-opens r b v h q) ∙ ap past e
-    opens Field.Ill h q = ap (λ (x : Reader). past x.stage) (value-opens-ill r b h q)
+    opens : (f : Option ℕ) → r.column < 20 → with_column_of r.shown b ≡ f → past (value_byte_of r b).stage ≡ true
+    opens (Some v) h q = ap (λ (x : Reader). past x.stage) (value-opens r b v h q) ∙ ap past e
+    opens None h q = ap (λ (x : Reader). past x.stage) (value-opens-ill r b h q)
 
-    closes : (f : Field) → 20 ≤ r.column → with_last_digit r.shown b ≡ f → past (value_byte_of r b).stage ≡ true
-    closes (Field.Number n) h q = ap (λ (x : Reader). past x.stage) (value-closes r b n h q)
-    closes Field.Ill h q = ap (λ (x : Reader). past x.stage) (value-closes-ill r b h q)
+    closes : (f : Option ℕ) → 20 ≤ r.column → with_last_digit r.shown b ≡ f → past (value_byte_of r b).stage ≡ true
+    closes (Some n) h q = ap (λ (x : Reader). past x.stage) (value-closes r b n h q)
+    closes None h q = ap (λ (x : Reader). past x.stage) (value-closes-ill r b h q)
 
 pub past-step : (s : State) (b : ℕ) → past s.reader.stage ≡ true → past (step s b).reader.stage ≡ true
 past-step s b p = go s.reader.stage refl p
@@ -67,31 +66,31 @@ past-fed s (b ∷ bs) p = past-fed (step s b) bs (past-step s b p)
 
 -- the reading at each stage
 module _ (r : Reader) where
-  pub reading_first : r.stage ≡ Stage.FirstLine → reading_of r ≡ Reading.IllHead
+  pub reading_first : r.stage ≡ Stage.FirstLine → reading_of r ≡ Err IllFormed.Head
   unfolding reading_at
   reading_first e = ap (λ (x : Stage). reading_at x r) e
 
-  pub reading_second : r.stage ≡ Stage.SecondLine → reading_of r ≡ Reading.IllHead
+  pub reading_second : r.stage ≡ Stage.SecondLine → reading_of r ≡ Err IllFormed.Head
   unfolding reading_at
   reading_second e = ap (λ (x : Stage). reading_at x r) e
 
-  pub reading_value : r.stage ≡ Stage.Value → r.column ≡ 0 → reading_of r ≡ Reading.Whole
+  pub reading_value : r.stage ≡ Stage.Value → r.column ≡ 0 → reading_of r ≡ Ok tt
   unfolding reading_at
   reading_value e z = ap (λ (x : Stage). reading_at x r) e ∙ simp (eq-eqb r.column 0 z)
 
-  pub reading_open : r.stage ≡ Stage.Value → (r.column ≡ 0 → ⊥) → reading_of r ≡ Reading.IllValues
+  pub reading_open : r.stage ≡ Stage.Value → (r.column ≡ 0 → ⊥) → reading_of r ≡ Err IllFormed.Values
   unfolding reading_at
   reading_open e z = ap (λ (x : Stage). reading_at x r) e ∙ simp (ne_eqb r.column 0 z)
 
-  pub reading_line-end : r.stage ≡ Stage.LineEnd → reading_of r ≡ Reading.IllValues
+  pub reading_line-end : r.stage ≡ Stage.LineEnd → reading_of r ≡ Err IllFormed.Values
   unfolding reading_at
   reading_line-end e = ap (λ (x : Stage). reading_at x r) e
 
-  pub reading_ill_head : r.stage ≡ Stage.IllHead → reading_of r ≡ Reading.IllHead
+  pub reading_ill_head : r.stage ≡ Stage.IllHead → reading_of r ≡ Err IllFormed.Head
   unfolding reading_at
   reading_ill_head e = ap (λ (x : Stage). reading_at x r) e
 
-  pub reading_ill_values : r.stage ≡ Stage.IllValues → reading_of r ≡ Reading.IllValues
+  pub reading_ill_values : r.stage ≡ Stage.IllValues → reading_of r ≡ Err IllFormed.Values
   unfolding reading_at
   reading_ill_values e = ap (λ (x : Stage). reading_at x r) e
 
@@ -149,10 +148,10 @@ module _ (t₀ bs : List ℕ) where
       ∙ ap (λ (x : State). past (fed x rest).reader.stage) (fed_head h t₀ good)
       ∙ past-fed (state (head_read h) t₀) rest refl)
 
-  no_values : reading_of end.reader ≡ Reading.IllValues → (h : Head) (rest : List ℕ) → GoodHead h → bs ≡ head_text h ++ rest
+  no_values : reading_of end.reader ≡ (Err IllFormed.Values) → (h : Head) (rest : List ℕ) → GoodHead h → bs ≡ head_text h ++ rest
       → (vs : List ℕ) → Words vs → rest ≡ values_text vs → ⊥
   no_values p h rest good e vs words q =
-      let whole : Reading.IllValues ≡ Reading.Whole =
+      let whole : (Err IllFormed.Values) ≡ (Ok tt) =
       sym p
       ∙ ap (λ (x : List ℕ). reading_of (fed (state none_read t₀) x).reader) (e ∙ ap (head_text h ++◌) q)
       ∙ ap (λ (x : State). reading_of x.reader) (read_back t₀ h vs good words)
@@ -164,15 +163,15 @@ module _ (t₀ bs : List ℕ) where
   unfolding columns
   read_as = go end.reader.stage refl (stands_fed t₀ [] (state none_read t₀) bs (stands_none t₀))
     where
-      is : (x : Reading) → reading_of end.reader ≡ x → ReadAs t₀ bs end x → ReadAs t₀ bs end (reading_of end.reader)
+      is : (x : Result ⊤ IllFormed) → reading_of end.reader ≡ x → ReadAs t₀ bs end x → ReadAs t₀ bs end (reading_of end.reader)
       is x e a = subst (ReadAs t₀ bs end) (sym e) a
 
       ill-values-of : (rest : List ℕ) → GoodHead (head_of end.reader) → bs ≡ head_text (head_of end.reader) ++ rest
-          → reading_of end.reader ≡ Reading.IllValues → ReadAs t₀ bs end (reading_of end.reader)
+          → reading_of end.reader ≡ (Err IllFormed.Values) → ReadAs t₀ bs end (reading_of end.reader)
       ill-values-of rest good e p =
-          is Reading.IllValues p (read_ill_values (says_ill_values rest good e (no_values p (head_of end.reader) rest good e)))
+          is (Err IllFormed.Values) p (read_ill_values (says_ill_values rest good e (no_values p (head_of end.reader) rest good e)))
 
-      values_of : (o : List ℕ) → InValues o t₀ bs end.reader end.values → reading_of end.reader ≡ Reading.IllValues
+      values_of : (o : List ℕ) → InValues o t₀ bs end.reader end.values → reading_of end.reader ≡ Err IllFormed.Values
           → ReadAs t₀ bs end (reading_of end.reader)
       values_of o s p =
           ill-values-of (values_text s.vs ++ o) s.good
@@ -181,7 +180,7 @@ module _ (t₀ bs : List ℕ) where
       whole_of : InValues (columns end.reader.column end.reader.shown) t₀ bs end.reader end.values → end.reader.stage ≡ Stage.Value
           → end.reader.column ≡ 0 → ReadAs t₀ bs end (reading_of end.reader)
       whole_of s e z =
-          is Reading.Whole (reading_value end.reader e z)
+          is (Ok tt) (reading_value end.reader e z)
           (read_whole s.vs
           (says_whole s.good s.words
           (s.text
@@ -190,8 +189,8 @@ module _ (t₀ bs : List ℕ) where
           (s.count ∙ counted-all s.vs (length t₀) 0 (omega arith) ∙ omega arith)
           (s.table ∙ stored_all_lem s.vs t₀ 0))
 
-      ill-head-of : past end.reader.stage ≡ false → reading_of end.reader ≡ Reading.IllHead → ReadAs t₀ bs end (reading_of end.reader)
-      ill-head-of p e = is Reading.IllHead e (read_ill_head (says_ill_head (no_head p)))
+      ill-head-of : past end.reader.stage ≡ false → reading_of end.reader ≡ (Err IllFormed.Head) → ReadAs t₀ bs end (reading_of end.reader)
+      ill-head-of p e = is (Err IllFormed.Head) e (read_ill_head (says_ill_head (no_head p)))
 
       go : (stage : Stage) → end.reader.stage ≡ stage → StandsAt stage t₀ bs end.reader end.values
           → ReadAs t₀ bs end (reading_of end.reader)

@@ -1,6 +1,6 @@
 -- The reader on a text of the layout. Fed a number it takes that number in; fed the two first lines it holds them; fed values it stores and counts
 -- them. Numbers first, for any stage that takes columns and a last column in.
-use Rattle.std.specs.Prelude.{◌≡◌, refl, length, drop, set, replicate}
+use Rattle.std.specs.Prelude.{◌≡◌, refl, length, drop, set, replicate, Some}
 use Rattle.std.proofs.Common.{sym, ◌∙◌, add-zero, add-one, length-set, take_at}
 use Rattle.std.proofs.Math.Path.{ap, ap₂}
 use mathlib.Core.List.{List, [], ◌∷◌, ◌++◌, append-nil}
@@ -15,25 +15,24 @@ use Rattle.bench_file.specs.ColumnLaws.{digit_of, Column, blank, digit, column_o
 use Rattle.bench_file.specs.Layout.{Head, Words, none, next, GoodHead, head_text, values_text}
 use Rattle.bench_file.specs.Steps.{reader, none_read, staged, head_column_of, counted, State, state, line_end, step, fed, head_of}
 use Rattle.bench_file.specs.StepLaws.{with_head_room, head_opens, head_closes, first_inside, first_ends, second_inside, second_ends, value-opens, value-closes, step-first, step_second, step_value, step-line-end, fed-append}
-use Rattle.bench_file.specs.declared.number.Field.{Field}
 use Rattle.bench_file.specs.declared.reader.Stage.{Stage}
 use Rattle.bench_file.specs.declared.reader.Reader.{Reader}
 
 -- a column is no end of a line
-pub column_inside : (v b w : ℕ) → with_column_of v b ≡ Field.Number w → b ≡ 10 → ⊥
+pub column_inside : (v b w : ℕ) → with_column_of v b ≡ Some w → b ≡ 10 → ⊥
 column_inside v b w e h = go w (column_of v b w e)
   where
     go : (w : ℕ) → Column v b w → ⊥
     go zero (blank p q) = omega arith
     go (suc w) (digit d) = omega arith
 
-pub digit_inside : (v b n : ℕ) → with_last_digit v b ≡ Field.Number n → b ≡ 10 → ⊥
+pub digit_inside : (v b n : ℕ) → with_last_digit v b ≡ Some n → b ≡ 10 → ⊥
 digit_inside v b n e h = let d = digit_of v b n e in omega arith
 
 -- any stage with `open c v` after c columns that show v and `closed n` after the number n
 module _ (open' : ℕ → ℕ → State) (closed : ℕ → State)
-    (opens : (c v b w : ℕ) → c < 20 → with_column_of v b ≡ Field.Number w → step (open' c v) b ≡ open' (c + 1) w)
-    (closes : (v b n : ℕ) → with_last_digit v b ≡ Field.Number n → step (open' 20 v) b ≡ closed n) where
+    (opens : (c v b w : ℕ) → c < 20 → with_column_of v b ≡ Some w → step (open' c v) b ≡ open' (c + 1) w)
+    (closes : (v b n : ℕ) → with_last_digit v b ≡ Some n → step (open' 20 v) b ≡ closed n) where
   fed-columns : (k n : ℕ) → k ≤ 20 → n < 10 ^ k → n < 2 ^ 64 → fed (open' 0 0) (columns k n) ≡ open' k n
   unfolding columns fed
   fed-columns zero n h s w = let z : 0 ≡ n = omega arith in ap (open' 0) z

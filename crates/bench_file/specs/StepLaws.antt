@@ -1,5 +1,5 @@
 -- What one byte makes of a reader, case by case.
-use Rattle.std.specs.Prelude.{◌≡◌, refl, List, [], ◌∷◌, ◌++◌, ℕ, suc, ◌+◌, ◌≤◌, ◌<◌, length, set, drop}
+use Rattle.std.specs.Prelude.{◌≡◌, refl, List, [], ◌∷◌, ◌++◌, ℕ, suc, ◌+◌, ◌≤◌, ◌<◌, length, set, drop, Some, None}
 use Rattle.std.proofs.Common.{sym, ◌∙◌, add-one, drop_of_length-le, drop-cons}
 use Rattle.std.proofs.Math.Path.{ap}
 use borrow.Author.Tests.{lt-ltb, le-ltb, le-leb, lt-leb, eq-eqb, ne_eqb}
@@ -7,7 +7,6 @@ use Rattle.std.proofs.Math.Seq.{set_out}
 use Rattle.meaning.specs.Tables.{at}
 use Rattle.bench_file.specs.Columns.{with_last_digit, with_column_of}
 use Rattle.bench_file.specs.Steps.{reader, staged, opened, with_head, head_column_of, first_byte_of, second_byte_of, with_value_of, value_byte_of, counted, State, state, line_end, step_at, step, fed}
-use Rattle.bench_file.specs.declared.number.Field.{Field}
 use Rattle.bench_file.specs.declared.reader.Stage.{Stage}
 use Rattle.bench_file.specs.declared.reader.Reader.{Reader}
 
@@ -20,19 +19,19 @@ module _ (r : Reader) (n : ℕ) where
   with_head_full h = simp (le-ltb r.got 24 h)
 
 module _ (r : Reader) (b : ℕ) where
-  pub head_opens : (v : ℕ) → r.column < 20 → with_column_of r.shown b ≡ Field.Number v → head_column_of r b ≡ opened r v
+  pub head_opens : (v : ℕ) → r.column < 20 → with_column_of r.shown b ≡ Some v → head_column_of r b ≡ opened r v
   unfolding head_column_of
   head_opens v h e = simp (lt-ltb r.column 20 h, e)
 
-  pub head_opens_ill : r.column < 20 → with_column_of r.shown b ≡ Field.Ill → head_column_of r b ≡ staged Stage.IllHead r
+  pub head_opens_ill : r.column < 20 → with_column_of r.shown b ≡ None → head_column_of r b ≡ staged Stage.IllHead r
   unfolding head_column_of
   head_opens_ill h e = simp (lt-ltb r.column 20 h, e)
 
-  pub head_closes : (n : ℕ) → 20 ≤ r.column → with_last_digit r.shown b ≡ Field.Number n → head_column_of r b ≡ with_head r n
+  pub head_closes : (n : ℕ) → 20 ≤ r.column → with_last_digit r.shown b ≡ Some n → head_column_of r b ≡ with_head r n
   unfolding head_column_of
   head_closes n h e = simp (le-ltb r.column 20 h, e)
 
-  pub head_closes_ill : 20 ≤ r.column → with_last_digit r.shown b ≡ Field.Ill → head_column_of r b ≡ staged Stage.IllHead r
+  pub head_closes_ill : 20 ≤ r.column → with_last_digit r.shown b ≡ None → head_column_of r b ≡ staged Stage.IllHead r
   unfolding head_column_of
   head_closes_ill h e = simp (le-ltb r.column 20 h, e)
 
@@ -88,19 +87,19 @@ module _ (r : Reader) (b : ℕ) where
               (eq-eqb b 10 h, eq-eqb r.column 0 k, le-leb (at r.head 2) 255 d, le-leb (at r.head 3) 20 m, eq-eqb r.got (at r.head 3 + 4) g)
 
   -- a value
-  pub value-opens : (v : ℕ) → r.column < 20 → with_column_of r.shown b ≡ Field.Number v → value_byte_of r b ≡ opened r v
+  pub value-opens : (v : ℕ) → r.column < 20 → with_column_of r.shown b ≡ Some v → value_byte_of r b ≡ opened r v
   unfolding value_byte_of
   value-opens v h e = simp (lt-ltb r.column 20 h, e)
 
-  pub value-opens-ill : r.column < 20 → with_column_of r.shown b ≡ Field.Ill → value_byte_of r b ≡ staged Stage.IllValues r
+  pub value-opens-ill : r.column < 20 → with_column_of r.shown b ≡ None → value_byte_of r b ≡ staged Stage.IllValues r
   unfolding value_byte_of
   value-opens-ill h e = simp (lt-ltb r.column 20 h, e)
 
-  pub value-closes : (n : ℕ) → 20 ≤ r.column → with_last_digit r.shown b ≡ Field.Number n → value_byte_of r b ≡ with_value_of r n
+  pub value-closes : (n : ℕ) → 20 ≤ r.column → with_last_digit r.shown b ≡ Some n → value_byte_of r b ≡ with_value_of r n
   unfolding value_byte_of
   value-closes n h e = simp (le-ltb r.column 20 h, e)
 
-  pub value-closes-ill : 20 ≤ r.column → with_last_digit r.shown b ≡ Field.Ill → value_byte_of r b ≡ staged Stage.IllValues r
+  pub value-closes-ill : 20 ≤ r.column → with_last_digit r.shown b ≡ None → value_byte_of r b ≡ staged Stage.IllValues r
   unfolding value_byte_of
   value-closes-ill h e = simp (le-ltb r.column 20 h, e)
 

@@ -1,12 +1,11 @@
 -- The reader: what one byte makes of it, and what it makes of a lent table of values.
-use Rattle.std.specs.Prelude.{ℕ, ◌+◌, Bool, ◌&&◌, cond, List, [], ◌∷◌, leb, ltb, eqb, length, take, drop, set, replicate}
+use Rattle.std.specs.Prelude.{ℕ, ◌+◌, Bool, ◌&&◌, cond, List, [], ◌∷◌, leb, ltb, eqb, length, take, drop, set, replicate, Option, Some, None, Ok, Err, ⊤, Result}
 use Rattle.meaning.specs.Tables.{at}
 use Rattle.bench_file.specs.Columns.{with_last_digit, with_column_of}
 use Rattle.bench_file.specs.Layout.{Head}
-use Rattle.bench_file.specs.declared.number.Field.{Field}
 use Rattle.bench_file.specs.declared.reader.Stage.{Stage}
 use Rattle.bench_file.specs.declared.reader.Reader.{Reader}
-use Rattle.bench_file.specs.declared.reader.Reading.{Reading}
+use Rattle.bench_file.specs.declared.reader.IllFormed.{IllFormed}
 
 abbrev pub reader : Stage → ℕ → ℕ → ℕ → List ℕ → ℕ → Reader
 reader stage column shown got head count =
@@ -20,9 +19,9 @@ none_read = reader Stage.FirstLine 0 0 0 (replicate 24 0) 0
 abbrev pub staged : Stage → Reader → Reader
 staged s r = reader s r.column r.shown r.got r.head r.count
 
-abbrev pub on_field : Field → (ℕ → Reader) → Reader → Reader
-on_field (Field.Number n) f ill = f n
-on_field Field.Ill f ill = ill
+abbrev pub on_field : Option ℕ → (ℕ → Reader) → Reader → Reader
+on_field (Some n) f ill = f n
+on_field None f ill = ill
 
 -- one column more of an open number
 abbrev pub opened : Reader → ℕ → Reader
@@ -110,13 +109,13 @@ head_of r =
     record { width = at r.head 0; total = at r.head 1; degree = at r.head 2; support = take (at r.head 3) (drop 4 r.head) }
 
 -- what all the bytes were, where no more follow
-unfoldable pub reading_at : Stage → Reader → Reading
-reading_at Stage.FirstLine r = Reading.IllHead
-reading_at Stage.SecondLine r = Reading.IllHead
-reading_at Stage.Value r = cond (eqb r.column 0) Reading.Whole Reading.IllValues
-reading_at Stage.LineEnd r = Reading.IllValues
-reading_at Stage.IllHead r = Reading.IllHead
-reading_at Stage.IllValues r = Reading.IllValues
+unfoldable pub reading_at : Stage → Reader → Result ⊤ IllFormed
+reading_at Stage.FirstLine r = Err IllFormed.Head
+reading_at Stage.SecondLine r = Err IllFormed.Head
+reading_at Stage.Value r = cond (eqb r.column 0) (Ok tt) (Err IllFormed.Values)
+reading_at Stage.LineEnd r = Err IllFormed.Values
+reading_at Stage.IllHead r = Err IllFormed.Head
+reading_at Stage.IllValues r = Err IllFormed.Values
 
-abbrev pub reading_of : Reader → Reading
+abbrev pub reading_of : Reader → Result ⊤ IllFormed
 reading_of r = reading_at r.stage r

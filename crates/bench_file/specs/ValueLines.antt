@@ -1,5 +1,5 @@
 -- In the values: the bytes so far are the first two lines, the lines of the values so far, and what there is of the next.
-use Rattle.std.specs.Prelude.{◌≡◌, refl, List, [], ◌∷◌, ◌++◌, ℕ, ◌+◌, ◌^◌, ◌≤◌, ◌<◌, length, set}
+use Rattle.std.specs.Prelude.{◌≡◌, refl, List, [], ◌∷◌, ◌++◌, ℕ, ◌+◌, ◌^◌, ◌≤◌, ◌<◌, length, set, Option, Some, None}
 use Rattle.std.proofs.Common.{sym, ◌∙◌, ap, ap₂, subst, append_assoc, append-nil, ⊎_elim, add-one, arith, length-set}
 use Rattle.bench_file.specs.Text.{columns, number, numbers, line}
 use Rattle.bench_file.specs.Columns.{with_last_digit, with_column_of}
@@ -9,7 +9,6 @@ use Rattle.bench_file.specs.Steps.{reader, staged, opened, with_value_of, value_
 use Rattle.bench_file.specs.StepLaws.{value-opens, value-opens-ill, value-closes, value-closes-ill}
 use Rattle.bench_file.specs.Runs.{counted_all, stored_all}
 use Rattle.bench_file.specs.HeadLines.{lt_or_ge, words_snoc}
-use Rattle.bench_file.specs.declared.number.Field.{Field}
 use Rattle.bench_file.specs.declared.reader.Stage.{Stage}
 use Rattle.bench_file.specs.declared.reader.Reader.{Reader}
 
@@ -78,7 +77,7 @@ module _ (open' t₀ bs : List ℕ) (r : Reader) (t : List ℕ) (b : ℕ) (s : I
 -- a byte of a value
 module _ (t₀ bs : List ℕ) (r : Reader) (t : List ℕ) (b : ℕ) (stage : r.stage ≡ Stage.Value)
     (s : InValues (columns r.column r.shown) t₀ bs r t) where
-  value-opened : (v : ℕ) → r.column < 20 → with_column_of r.shown b ≡ Field.Number v
+  value-opened : (v : ℕ) → r.column < 20 → with_column_of r.shown b ≡ Some v
       → InValues (columns (r.column + 1) v) t₀ (bs ++ (b ∷ [])) (opened r v) t
   value-opened v h e =
       record {
@@ -93,7 +92,7 @@ module _ (t₀ bs : List ℕ) (r : Reader) (t : List ℕ) (b : ℕ) (stage : r.s
             (column_text r.column r.shown b v (column_of r.shown b v e) ∙ ap (λ (x : ℕ). columns x v) (sym (add-one r.column)));
       }
 
-  value_closed : (n : ℕ) → 20 ≤ r.column → with_last_digit r.shown b ≡ Field.Number n → InValues (number n) t₀ (bs ++ (b ∷ [])) (with_value_of r n) t
+  value_closed : (n : ℕ) → 20 ≤ r.column → with_last_digit r.shown b ≡ Some n → InValues (number n) t₀ (bs ++ (b ∷ [])) (with_value_of r n) t
   value_closed n h e =
       record {
         good = s.good;
@@ -113,17 +112,17 @@ module _ (t₀ bs : List ℕ) (r : Reader) (t : List ℕ) (b : ℕ) (stage : r.s
   pub value_next : AfterValue t₀ (bs ++ (b ∷ [])) t (value_byte_of r b)
   value_next = ⊎_elim (λ h. opens (with_column_of r.shown b) h refl) (λ h. closes (with_last_digit r.shown b) h refl) (lt_or_ge r.column 20)
     where
-      opens : (f : Field) → r.column < 20 → with_column_of r.shown b ≡ f → AfterValue t₀ (bs ++ (b ∷ [])) t (value_byte_of r b)
-      opens (Field.Number v) h e =
+      opens : (f : Option ℕ) → r.column < 20 → with_column_of r.shown b ≡ f → AfterValue t₀ (bs ++ (b ∷ [])) t (value_byte_of r b)
+      opens (Some v) h e =
           subst (AfterValue t₀ (bs ++ (b ∷ [])) t) (sym (value-opens r b v h e)) (goes_on stage (value-opened v h e))
-      opens Field.Ill h e =
+      opens None h e =
           subst (AfterValue t₀ (bs ++ (b ∷ [])) t) (sym (value-opens-ill r b h e))
           (ends refl (value_spoils (columns r.column r.shown) t₀ bs r t b s Stage.IllValues))
 
-      closes : (f : Field) → 20 ≤ r.column → with_last_digit r.shown b ≡ f → AfterValue t₀ (bs ++ (b ∷ [])) t (value_byte_of r b)
-      closes (Field.Number n) h e =
+      closes : (f : Option ℕ) → 20 ≤ r.column → with_last_digit r.shown b ≡ f → AfterValue t₀ (bs ++ (b ∷ [])) t (value_byte_of r b)
+      closes (Some n) h e =
           subst (AfterValue t₀ (bs ++ (b ∷ [])) t) (sym (value-closes r b n h e)) (is_whole refl (value_closed n h e))
-      closes Field.Ill h e =
+      closes None h e =
           subst (AfterValue t₀ (bs ++ (b ∷ [])) t) (sym (value-closes-ill r b h e))
           (ends refl (value_spoils (columns r.column r.shown) t₀ bs r t b s Stage.IllValues))
 

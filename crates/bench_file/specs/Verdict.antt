@@ -1,13 +1,13 @@
 -- The number of the answer from its causes, in their order, and the settings in the types of the calls.
-use Rattle.std.specs.Prelude.{ℕ, min, Bool, cond}
+use Rattle.std.specs.Prelude.{ℕ, min, Bool, cond, Ok, Err, ⊤, Result}
 use Rattle.meaning.specs.Settings.{first}
-use Rattle.bench_file.specs.declared.reader.Reading.{Reading}
+use Rattle.bench_file.specs.declared.reader.IllFormed.{IllFormed}
 
 -- what the input was, the number of the settings, whether the values are as many as the box has cells, and what recovery says
-unfoldable pub verdict : Reading → ℕ → Bool → ℕ → ℕ
-verdict Reading.IllHead settings exact recovered = 12
-verdict Reading.IllValues settings exact recovered = first settings 12
-verdict Reading.Whole settings exact recovered = first settings (cond exact recovered 9)
+unfoldable pub verdict : Result ⊤ IllFormed → ℕ → Bool → ℕ → ℕ
+verdict (Err IllFormed.Head) settings exact recovered = 12
+verdict (Err IllFormed.Values) settings exact recovered = first settings 12
+verdict (Ok tt) settings exact recovered = first settings (cond exact recovered 9)
 
 -- a number as the calls take it, the largest of 32 bits where it is larger
 abbrev pub narrowed : ℕ → ℕ

@@ -1,5 +1,5 @@
 -- The program's number is the layout's, and narrowing changes no number of the settings.
-use Rattle.std.specs.Prelude.{◌≡◌, refl, Bool, true, false, cond, List, ℕ, zero, suc, ◌≤◌, ◌<◌, eqb, length}
+use Rattle.std.specs.Prelude.{◌≡◌, refl, Bool, true, false, cond, List, ℕ, zero, suc, ◌≤◌, ◌<◌, eqb, length, Ok, Err, ⊤, Result}
 use Rattle.std.proofs.Common.{sym, ◌∙◌, ⊎_elim, arith, lt-ltb}
 use Rattle.std.proofs.Math.Path.{ap, ap₂}
 use Rattle.meaning.specs.Boxes.{cells}
@@ -9,39 +9,39 @@ use Rattle.theory.specs.Ranges.{width_above}
 use Rattle.bench_file.specs.Layout.{Head, ill_head, ill_values, whole, degrees_of, head_number, bench_number}
 use Rattle.bench_file.specs.Verdict.{verdict, narrowed}
 use Rattle.bench_file.specs.HeadLines.{lt_or_ge}
-use Rattle.bench_file.specs.declared.reader.Reading.{Reading}
+use Rattle.bench_file.specs.declared.reader.IllFormed.{IllFormed}
 
-pub verdict_ill_head : (s : ℕ) (e : Bool) (r : ℕ) → verdict Reading.IllHead s e r ≡ bench_number ill_head
+pub verdict_ill_head : (s : ℕ) (e : Bool) (r : ℕ) → verdict (Err IllFormed.Head) s e r ≡ bench_number ill_head
 unfolding verdict bench_number
 verdict_ill_head s e r = refl
 
-pub verdict_ill_values : (h : Head) (e : Bool) (r : ℕ) → verdict Reading.IllValues (head_number h) e r ≡ bench_number (ill_values h)
+pub verdict_ill_values : (h : Head) (e : Bool) (r : ℕ) → verdict (Err IllFormed.Values) (head_number h) e r ≡ bench_number (ill_values h)
 unfolding verdict bench_number
 verdict_ill_values h e r = refl
 
 pub verdict_whole : (h : Head) (vs : List ℕ)
-    → verdict Reading.Whole (head_number h) (eqb (length vs) (cells (degrees_of h))) (cond (accepts h.width (degrees_of h) vs) 0 6)
+    → verdict (Ok tt) (head_number h) (eqb (length vs) (cells (degrees_of h))) (cond (accepts h.width (degrees_of h) vs) 0 6)
     ≡ bench_number (whole h vs)
 unfolding verdict bench_number
 verdict_whole h vs = refl
 
 -- case by case
-module _ (x : Reading) (s : ℕ) (e : Bool) (r : ℕ) where
-  pub at_ill_head : x ≡ Reading.IllHead → verdict x s e r ≡ 12
+module _ (x : Result ⊤ IllFormed) (s : ℕ) (e : Bool) (r : ℕ) where
+  pub at_ill_head : x ≡ (Err IllFormed.Head) → verdict x s e r ≡ 12
   unfolding verdict
-  at_ill_head h = ap (λ (y : Reading). verdict y s e r) h
+  at_ill_head h = ap (λ (y : Result ⊤ IllFormed). verdict y s e r) h
 
-  pub at_ill_values : x ≡ Reading.IllValues → verdict x s e r ≡ first s 12
+  pub at_ill_values : x ≡ (Err IllFormed.Values) → verdict x s e r ≡ first s 12
   unfolding verdict
-  at_ill_values h = ap (λ (y : Reading). verdict y s e r) h
+  at_ill_values h = ap (λ (y : Result ⊤ IllFormed). verdict y s e r) h
 
-  pub at_exact : x ≡ Reading.Whole → e ≡ true → verdict x s e r ≡ first s r
+  pub at_exact : x ≡ (Ok tt) → e ≡ true → verdict x s e r ≡ first s r
   unfolding verdict
-  at_exact h k = ap₂ (λ (y : Reading) (b : Bool). verdict y s b r) h k
+  at_exact h k = ap₂ (λ (y : Result ⊤ IllFormed) (b : Bool). verdict y s b r) h k
 
-  pub at_wrong : x ≡ Reading.Whole → e ≡ false → verdict x s e r ≡ first s 9
+  pub at_wrong : x ≡ (Ok tt) → e ≡ false → verdict x s e r ≡ first s 9
   unfolding verdict
-  at_wrong h k = ap₂ (λ (y : Reading) (b : Bool). verdict y s b r) h k
+  at_wrong h k = ap₂ (λ (y : Result ⊤ IllFormed) (b : Bool). verdict y s b r) h k
 
 -- the width
 pub narrowed_width : (w : ℕ) → fits_width (narrowed w) ≡ fits_width w

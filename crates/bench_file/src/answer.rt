@@ -1,139 +1,122 @@
 // The text of an answer, written to a lent buffer.
-ghost use Rattle.std.specs.Prelude.{◌≡◌, ◌+◌, ◌*◌, ◌≤◌, length, replicate};
-ghost use Rattle.std.proofs.lemmas.List.Edits.{sets};
+ghost use Rattle.std.specs.Prelude.{◌≡◌, ◌+◌, ◌*◌, ◌≤◌, length, replicate, [], ◌∷◌};
 ghost use Rattle.meaning.specs.Boxes.{digits};
 ghost use Rattle.bench_file.specs.Text.{number, numbers};
 ghost use Rattle.bench_file.specs.Layout.{non_zeros, term_lines, accepted_text, refused_text};
-ghost use Rattle.bench_file.specs.Printed.{printed, printed_size, term_text, one_term_of};
+ghost use Rattle.bench_file.specs.Printed.{printed, printed_size, term_text, Writes};
 
 use crate::number;
 
-// How many bytes of the buffer the text takes. A buffer without room for the text stays as it was.
-#[derive(Clone, Copy)]
-pub enum Written {
-    Bytes(usize),
-    NoRoom,
+// A box of one degree in each of its variables.
+#[derive(Clone, Copy, Debug, PartialEq, Eq)]
+pub struct Cube {
+    pub degree: u8,
+    pub variables: u8,
 }
 
-// Writes a number; the place after it.
-fn put_number(out: &mut [u8], at: usize, value: u64) -> usize
-    requires { at + 21 ≤ length out.old }
-    ensures next { result ≡ at + 21 }
-    ensures leaves { out.new ≡ sets out.old at (number value) }
-{
-    let end = at + 21;
-    number::write_number(&mut out[at..end], value);
-    end
+// A lent buffer and how many of its bytes are written.
+#[derive(Drop)]
+struct Printer<'a> {
+    out: &'a mut [u8],
+    size: usize,
 }
 
-// Writes the exponents of a cell; the place after them.
-fn put_exponents(out: &mut [u8], at: usize, cell: usize, degree: u8, variables: u8) -> usize
-    requires { at + 21 * variables ≤ length out.old }
-    ensures next { result ≡ at + 21 * variables }
-    ensures leaves { out.new ≡ sets out.old at (numbers (digits (replicate variables degree) cell)) }
-{
-    let base = degree as usize + 1;
-    let mut rest = cell;
-    let mut next = at;
-    let mut left = variables;
-    while 0 < left {
-        left -= 1;
-        next = put_number(out, next, (rest % base) as u64);
-        rest = rest / base;
+impl<'a> Printer<'a> {
+    // Writes a number.
+    fn number(&mut self, value: u64)
+        requires { self.old.size + 21 ≤ length self.old.out.now }
+        ensures { Writes self.old self.new (number value) }
+    {
+        let end = self.size + 21;
+        number::write_number(&mut self.out[self.size..end], value);
+        self.size = end;
     }
-    next
-}
 
-// Writes the line of a cell's coefficient, nothing where it is 0; the place after it.
-fn put_term(
-    out: &mut [u8],
-    at: usize,
-    cell: usize,
-    coefficient: u64,
-    degree: u8,
-    variables: u8,
-) -> usize
-    requires { at + length (term_text (replicate variables degree) cell coefficient) ≤ length out.old }
-    ensures next { result ≡ at + length (term_text (replicate variables degree) cell coefficient) }
-    ensures leaves { out.new ≡ sets out.old at (term_text (replicate variables degree) cell coefficient) }
-{
-    if coefficient == 0 {
-        return at;
+    // Ends a line.
+    fn line_end(&mut self)
+        requires { self.old.size + 1 ≤ length self.old.out.now }
+        ensures { Writes self.old self.new (10 ∷ []) }
+    {
+        self.out[self.size] = b'\n';
+        self.size += 1;
     }
-    let middle = put_exponents(out, at, cell, degree, variables);
-    let end = put_number(out, middle, coefficient);
-    out[end] = b'\n';
-    end + 1
-}
 
-// Writes the lines of all coefficients; the place after them.
-fn put_terms(out: &mut [u8], at: usize, coefficients: &[u64], degree: u8, variables: u8) -> usize
-    requires { at + length (term_lines (replicate variables degree) 0 coefficients.now) ≤ length out.old }
-    ensures next { result ≡ at + length (term_lines (replicate variables degree) 0 coefficients.now) }
-    ensures leaves { out.new ≡ sets out.old at (term_lines (replicate variables degree) 0 coefficients.now) }
-{
-    let mut next = at;
-    let mut cell = 0;
-    while cell < coefficients.len() {
-        next = put_term(out, next, cell, coefficients[cell], degree, variables);
-        cell += 1;
+    // Writes the exponents of a cell.
+    fn exponents(&mut self, cube: Cube, cell: usize)
+        requires { self.old.size + 21 * cube.variables ≤ length self.old.out.now }
+        ensures { Writes self.old self.new (numbers (digits (replicate cube.variables cube.degree) cell)) }
+    {
+        let base = usize::from(cube.degree) + 1;
+        let mut rest = cell;
+        for _ in 0..cube.variables {
+            self.number((rest % base) as u64);
+            rest /= base;
+        }
     }
-    next
-}
 
-// 1 for a coefficient that is not 0.
-fn one_term(coefficient: u64) -> usize
-    ensures { result ≡ one_term_of coefficient }
-{
-    if coefficient == 0 {
-        return 0;
+    // Writes the line of a cell's coefficient, nothing where it is 0.
+    fn term(&mut self, cube: Cube, cell: usize, coefficient: u64)
+        requires { self.old.size + length (term_text (replicate cube.variables cube.degree) cell coefficient) ≤ length self.old.out.now }
+        ensures { Writes self.old self.new (term_text (replicate cube.variables cube.degree) cell coefficient) }
+    {
+        if coefficient != 0 {
+            self.exponents(cube, cell);
+            self.number(coefficient);
+            self.line_end();
+        }
     }
-    1
+
+    // Writes the lines of all coefficients.
+    fn terms(&mut self, cube: Cube, coefficients: &[u64])
+        requires { self.old.size + length (term_lines (replicate cube.variables cube.degree) 0 coefficients.now) ≤ length self.old.out.now }
+        ensures { Writes self.old self.new (term_lines (replicate cube.variables cube.degree) 0 coefficients.now) }
+    {
+        for (cell, coefficient) in coefficients.iter().enumerate() {
+            self.term(cube, cell, *coefficient);
+        }
+    }
 }
 
 // How many coefficients are not 0.
 fn count_terms(coefficients: &[u64]) -> usize
     ensures { result ≡ non_zeros coefficients.now }
 {
-    let mut found: usize = 0;
-    let mut i = 0;
-    while i < coefficients.len() {
-        found += one_term(coefficients[i]);
-        i += 1;
-    }
-    found
+    coefficients.iter().filter(|c| **c != 0).count()
 }
 
 // Writes an accepted answer: 0 and the count of non-zero coefficients, then a line for each of them in cell order, its exponents and the coefficient.
-// The box has the one degree `degree` in each of its variables.
-pub fn write_accepted(degree: u8, variables: u8, coefficients: &[u64], out: &mut [u8]) -> Written
-    ensures says { result ≡ printed_size (accepted_text (replicate variables degree) coefficients.now) out.old }
-    ensures leaves { out.new ≡ printed (accepted_text (replicate variables degree) coefficients.now) out.old }
+// Gives how many bytes of the buffer the text takes: none where it has no room for the text, and then it stays as it was.
+pub fn write_accepted(cube: Cube, coefficients: &[u64], out: &mut [u8]) -> Option<usize>
+    ensures says { result ≡ printed_size (accepted_text (replicate cube.variables cube.degree) coefficients.now) out.old }
+    ensures leaves { out.new ≡ printed (accepted_text (replicate cube.variables cube.degree) coefficients.now) out.old }
 {
     let terms = count_terms(coefficients);
     if out.len() < 43 {
-        return Written::NoRoom;
+        return None;
     }
-    let size = variables as usize * 21 + 22;
-    if (out.len() - 43) / size < terms {
-        return Written::NoRoom;
+    let line = usize::from(cube.variables) * 21 + 22;
+    if (out.len() - 43) / line < terms {
+        return None;
     }
-    let first = put_number(out, 0, 0);
-    let second = put_number(out, first, terms as u64);
-    out[second] = b'\n';
-    let end = put_terms(out, second + 1, coefficients, degree, variables);
-    Written::Bytes(end)
+    let mut text = Printer { out, size: 0 };
+    text.number(0);
+    text.number(terms as u64);
+    text.line_end();
+    text.terms(cube, coefficients);
+    Some(text.size)
 }
 
-// Writes a refusal: its number alone on a line.
-pub fn write_refused(code: u32, out: &mut [u8]) -> Written
+// Writes a refusal: its number alone on a line. Gives how many bytes of the buffer the text takes: none where it has no room for the text, and then it
+// stays as it was.
+pub fn write_refused(code: u32, out: &mut [u8]) -> Option<usize>
     ensures says { result ≡ printed_size (refused_text code) out.old }
     ensures leaves { out.new ≡ printed (refused_text code) out.old }
 {
     if out.len() < 22 {
-        return Written::NoRoom;
+        return None;
     }
-    let end = put_number(out, 0, code as u64);
-    out[end] = b'\n';
-    Written::Bytes(end + 1)
+    let mut text = Printer { out, size: 0 };
+    text.number(u64::from(code));
+    text.line_end();
+    Some(text.size)
 }

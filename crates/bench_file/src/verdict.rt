@@ -1,57 +1,43 @@
-// The number of the answer, and the settings as the reader hands them over.
+// The outcome of the answer, and the settings as the reader hands them over.
 ghost use Rattle.std.specs.Prelude.{◌≡◌};
-ghost use Rattle.meaning.specs.Settings.{first};
+ghost use Rattle.answers.specs.Said.{said_number};
 ghost use Rattle.bench_file.specs.Verdict.{verdict, narrowed, lowered};
 
-use crate::reader::{Reader, Reading};
+use crate::reader::IllFormed;
 use answers::Refusal;
 
-// The first of two numbers that is not 0.
-fn first_of(one: u32, other: u32) -> u32
-    ensures { result ≡ first one other }
+// The outcome of the answer. `settings` says whether anything is wrong with the settings; `exact` says that there are as many values as the box has cells;
+// `recovered` is what recovery says. An input whose first two lines are ill-formed is 12; then come the settings, then 12 for ill-formed values, then 9 for
+// a wrong count.
+pub fn verdict_of(
+    reading: Result<(), IllFormed>,
+    settings: Result<(), Refusal>,
+    exact: bool,
+    recovered: Result<(), Refusal>,
+) -> Result<(), Refusal>
+    ensures { said_number result ≡ verdict reading (said_number settings) exact (said_number recovered) }
 {
-    if one == 0 {
-        return other;
+    if let Err(IllFormed::Head) = reading {
+        return Err(Refusal::IllFormed);
     }
-    one
+    settings?;
+    reading?;
+    if !exact {
+        return Err(Refusal::WrongLength);
+    }
+    recovered
 }
 
-// The number of the answer. `settings` is the number that the settings get, 0 where nothing is wrong with them; `exact` says that there are as many
-// values as the box has cells; `recovered` is recovery's own number. An input whose first two lines are ill-formed is 12; then come the settings,
-// then 12 for ill-formed values, then 9 for a wrong count.
-pub fn verdict_of(reading: Reading, settings: u32, exact: bool, recovered: u32) -> u32
-    ensures { result ≡ verdict reading settings exact recovered }
-{
-    let ill = answers::refusal_code(Refusal::IllFormed);
-    let wrong = answers::refusal_code(Refusal::WrongLength);
-    match reading {
-        Reading::IllHead => ill,
-        Reading::IllValues => first_of(settings, ill),
-        Reading::Whole => {
-            if exact {
-                return first_of(settings, recovered);
-            }
-            first_of(settings, wrong)
-        }
-    }
-}
-
-// A number of 64 bits as one of 32: the largest where it is larger. A width or a total so large is refused either way.
+// A number of 64 bits as one of 32 (and below as one of 8: one function for both would need a trait for the largest number of a type, and be no plainer): the largest where it is larger. A width or a total so large is refused either way.
 pub fn narrow(value: u64) -> u32
     ensures { result ≡ narrowed value }
 {
-    if 0xffff_ffff < value {
-        return 0xffff_ffff;
-    }
-    value as u32
+    u32::try_from(value).unwrap_or(u32::MAX)
 }
 
 // A number of 64 bits as one of 8: the largest where it is larger. A degree or a support count that was read is never larger.
 pub fn lower(value: u64) -> u8
     ensures { result ≡ lowered value }
 {
-    if 255 < value {
-        return 255;
-    }
-    value as u8
+    u8::try_from(value).unwrap_or(u8::MAX)
 }

@@ -1,6 +1,5 @@
--- Laws of the loops: the layout of a row (MaskLayouts), the numbers of a box kept below their bounds (Kept), the tests of a line or row (Gathered) and of the
--- parts of tables (TestedParts).
+-- Laws of the loops: the layout of a row (MaskLayouts), what is done at one cell (AtCells), walks over many (Turns), what a walk leaves (Results).
 pub mod MaskLayouts
-pub mod Kept
-pub mod Gathered
-pub mod TestedParts
+pub mod AtCells
+pub mod Turns
+pub mod Results

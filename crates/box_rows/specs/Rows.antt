@@ -1,5 +1,5 @@
 -- The masks of the cells of a row, which is the box of the first variables.
-use Rattle.std.specs.Prelude.{◌≡◌, ℕ, suc, ◌-◌, ◌*◌, ◌/◌, ◌^◌, ◌<◌, ◌≤◌, min, Bool, true, false, cond, ◌&&◌, leb, List, [], ◌∷◌, length, take, ◌==◌, ◌≢◌, nat_eq, nat_le, nat_lt, refl}
+use Rattle.std.specs.Prelude.{◌≡◌, ℕ, suc, ◌-◌, ◌*◌, ◌/◌, ◌^◌, ◌<◌, ◌≤◌, min, Bool, true, false, cond, ◌&&◌, leb, List, [], ◌∷◌, length, take, ◌==◌, ◌≢◌, nat_eq, nat_le, nat_lt, refl, Some, None, if◌then◌else◌}
 use Rattle.std.proofs.Common.{sym, ◌∙◌, true≢false, mul_assoc, mul_comm, lt_of_not-le, arith, pow_pos, take-take, leb-true, le-leb, lt-ltb, ne_eqb, eqb-true}
 use Rattle.std.proofs.Math.Path.{ap}
 use Rattle.std.proofs.Math.Nat.{div-eq_of_lt}
@@ -113,6 +113,16 @@ rowed_of ds t masks first long e m =
     let out : masks ≡ laid_out (take first ds) t = m ∙ ap (λ (b : Bool). cond b (laid_out (take first ds) t) t) enough in
     let small : cells (take first ds) ≤ length t = rw (count, long) (row_cells ds) in
     record { within = rw count (row_within 1 ds); room = rw (out, length-tabulate) small; laid = laid_of (take first ds) t masks small out }
+
+-- the same where their number is an option
+pub rows_laid : (ds t masks : List ℕ) (first : ℕ) → length t ≡ 256 → Some first ≡ (if leb 256 (length t) then Some (row_variables 1 ds) else None)
+    → masks ≡ cond (nat_le 256 (length t)) (laid_out (take (row_variables 1 ds) ds) t) t → Rowed first ds masks
+rows_laid ds t masks first long e m =
+    let enough : leb 256 (length t) ≡ true = le-leb 256 (length t) (omega (arith, long)) in
+    let some : Some first ≡ Some (row_variables 1 ds) = e ∙ ap (λ (b : Bool). if b then Some (row_variables 1 ds) else None) enough in
+    let count : first ≡ row_variables 1 ds = cc in
+    rowed_of ds t masks first long (count ∙ sym (ap (λ (b : Bool). cond b (row_variables 1 ds) 0) enough))
+    (m ∙ ap (λ (k : ℕ). cond (nat_le 256 (length t)) (laid_out (take k ds) t) t) (sym count))
 
 -- rows of one cell, of no variables
 pub rowed_alone : (ds : List ℕ) → Rowed 0 ds (0xffff_ffff_ffff_ffff ∷ [])

@@ -36,22 +36,29 @@ walk_lines ds n h e size s =
     record { filled = omega arith; whole = e; sized = s ∙ line-others ds h; place = omega arith; within = omega arith }
 
 module _ {ds : List ℕ} {n size e from : ℕ} (w : Walk ds n size e from) where
-  all : n ≡ suc (final ds) * size
-  all = w.whole ∙ cells_last ds w.filled ∙ mul_comm (cells (others ds)) (suc (final ds)) ∙ ap (suc (final ds) *◌) (sym w.sized)
+  pub walk_all : n ≡ suc (final ds) * size
+  walk_all = w.whole ∙ cells_last ds w.filled ∙ mul_comm (cells (others ds)) (suc (final ds)) ∙ ap (suc (final ds) *◌) (sym w.sized)
 
-  size_pos : 0 < size
-  size_pos = rw w.sized (cells_pos (others ds))
+  pub walk_size : 0 < size
+  walk_size = rw w.sized (cells_pos (others ds))
+
+  -- a sub-box is left as long as an exponent is
+  pub walk_left : e < suc (final ds) → from < n
+  walk_left h = omega (arith, w.place, walk_all, walk_size, mul-le-mul_right size h)
+
+  pub walk_over : suc (final ds) ≤ e → n ≤ from
+  walk_over h = omega (arith, w.place, walk_all, mul-le-mul_right size h)
 
   -- a sub-box is left
   module _ (h : from < n) where
     pub walk_exponent : e ≤ final ds
-    walk_exponent = le_of_suc-le-suc (lt_of_mul-lt-mul_right size (rw (← w.place, ← all) h))
+    walk_exponent = le_of_suc-le-suc (lt_of_mul-lt-mul_right size (rw (← w.place, ← walk_all) h))
 
     pub walk_fits : from + size ≤ n
-    walk_fits = omega (arith, w.place, all, mul-le-mul_right size (suc-le-suc walk_exponent))
+    walk_fits = omega (arith, w.place, walk_all, mul-le-mul_right size (suc-le-suc walk_exponent))
 
     pub walk_less : n - (from + size) < n - from
-    walk_less = omega (arith, size_pos, h)
+    walk_less = omega (arith, walk_size, h)
 
     -- a part of a table for the box is a table for the smaller box
     pub walk_part : (t : List ℕ) → length t ≡ n → length (part from (from + size) t) ≡ cells (others ds)
@@ -70,8 +77,8 @@ module _ {ds : List ℕ} {n size e from : ℕ} (w : Walk ds n size e from) where
   -- none is left
   pub walk_done : n ≤ from → e ≡ suc (final ds)
   walk_done h =
-      let last : suc (final ds) ≤ e = le_of_mul-le-mul_right (omega (arith, w.place, all)) size_pos in
+      let last : suc (final ds) ≤ e = le_of_mul-le-mul_right (omega (arith, w.place, walk_all)) walk_size in
       omega (arith, w.within)
 
   pub walk_end : n ≤ from → from ≡ n
-  walk_end h = w.place ∙ ap (◌* size) (walk_done h) ∙ sym all
+  walk_end h = w.place ∙ ap (◌* size) (walk_done h) ∙ sym walk_all

@@ -12,7 +12,7 @@ pub(crate) fn twos_in(n: usize) -> u32
     ensures twos { result ≡ twos n }
     ensures small { result < 64 }
 {
-    u64::trailing_zeros(n as u64)
+    (n as u64).trailing_zeros()
 }
 
 // The bits that are left of `bits` without the twos in n, 0 where there are no more. They are all left at 0.
@@ -22,11 +22,7 @@ pub fn bits_left(bits: u32, n: usize) -> u32
     if n == 0 {
         return bits;
     }
-    let twos = twos_in(n);
-    if twos < bits {
-        return bits - twos;
-    }
-    0
+    bits.saturating_sub(twos_in(n))
 }
 
 // A mask without the twos in n; it is the same at 0.
@@ -46,10 +42,8 @@ fn next_cells(masks: &mut [u64], size: usize, from: usize, t: u32)
         → Filled f t₀ masks.new (from + size) }
 {
     let before = from - size;
-    let mut r = 0;
-    while r < size {
+    for r in 0..size {
         masks[from + r] = masks[before + r] >> t;
-        r += 1;
     }
 }
 
@@ -60,50 +54,36 @@ fn add_variable(masks: &mut [u64], size: usize, d: u8) -> usize
     ensures masks { (ds t₀ : List ℕ) → size ≡ cells ds → Filled (mask_at ds) t₀ masks.old size
         → Filled (mask_at (ds ++ (d ∷ []))) t₀ masks.new result }
 {
-    let count = d as usize + 1;
     let mut from = size;
-    let mut e = 1;
-    while e < count {
+    for e in 1..d as usize + 1 {
         next_cells(masks, size, from, twos_in(e));
         from += size;
-        e += 1;
     }
     from
 }
 
 // Whether rows are the quicker way for a box of n cells; either way serves. They pay above 64 cells, but for lines of ten numbers or more only above 256.
 pub(crate) fn rows_pay(n: usize, degrees: &[u8]) -> bool {
-    if n <= 64 {
-        return false;
-    }
-    if 256 < n {
-        return true;
-    }
-    if degrees.len() == 0 {
-        return true;
-    }
-    degrees[0] < 9
+    64 < n && (256 < n || degrees.first().is_none_or(|d| *d < 9))
 }
 
 // Lays out the masks of a row of the first variables, as many as have 256 cells or fewer together; the numbers behind the cells of a row are as they were.
-// The result is how many variables these are. A table of fewer than 256 numbers is left as it was, and the result is 0.
-pub fn lay_out(masks: &mut [u64], degrees: &[u8]) -> usize
-    ensures variables { result ≡ (if leb 256 (length masks.old) then row_variables 1 degrees.now else 0) }
+// The result is how many variables these are. A table of fewer than 256 numbers is left as it was, and there is no result.
+pub fn lay_out(masks: &mut [u64], degrees: &[u8]) -> Option<usize>
+    ensures variables { result ≡ (if leb 256 (length masks.old) then Some (row_variables 1 degrees.now) else None) }
     ensures masks { masks.new ≡ cond (nat_le 256 (length masks.old))
-        (laid_out (take result degrees.now) masks.old) masks.old }
+        (laid_out (take (row_variables 1 degrees.now) degrees.now) masks.old) masks.old }
 {
     if masks.len() < 256 {
-        return 0;
+        return None;
     }
     masks[0] = 0xffff_ffff_ffff_ffff;
     let mut size = 1;
-    let mut i = 0;
-    while i < degrees.len() {
-        if 256 < size * (degrees[i] as usize + 1) {
-            return i;
+    for (i, d) in degrees.iter().enumerate() {
+        if 256 < size * (*d as usize + 1) {
+            return Some(i);
         }
-        size = add_variable(masks, size, degrees[i]);
-        i += 1;
+        size = add_variable(masks, size, *d);
     }
-    i
+    Some(degrees.len())
 }

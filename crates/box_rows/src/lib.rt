@@ -2,33 +2,34 @@
 // no call for a cell.
 #![tactic(auto)]
 
-ghost use Rattle.std.specs.Prelude.{◌≡◌, min, false, cond, ◌&&◌, length, ◌==◌};
+ghost use Rattle.std.specs.Prelude.{◌≡◌, min, true, false, cond, ◌&&◌, length, ◌==◌, MatchOption};
 ghost use Rattle.meaning.specs.Boxes.{cells};
 ghost use Rattle.meaning.specs.Values.{bound, box_total, box_reduced};
 ghost use Rattle.meaning.specs.Recovery.{every};
 ghost use Rattle.box_rows.specs.Rows.{holds};
 ghost use Rattle.box_rows.specs.Bounds.{is_below, is_equal};
 
+mod jobs;
 pub mod layout;
-mod reductions;
-mod sums;
-mod tests;
+mod walk;
 
-// Whether a box has 65,536 cells at most and n is their number.
-fn are_cells(degrees: &[u8], n: usize) -> bool
-    ensures { result ≡ holds degrees.now n }
+use jobs::{Agreement, Bounded, Reduction, Sum};
+use walk::Part;
+
+// The whole box in tables of n numbers, at a width cut at 64, if it has 65,536 cells at most and n is their number.
+fn whole_box(degrees: &[u8], n: usize, bits: u32) -> Option<Part<'_>>
+    ensures { MatchOption result (holds degrees.now n ≡ false)
+        (λ p. (holds degrees.now n ≡ true) × (p.degrees.now ≡ degrees.now) × (p.from ≡ 0) × (p.count ≡ n) × (p.bits ≡ min bits 64)) }
 {
-    if 65536 < n {
-        return false;
+    if 65536 < n || n as u64 != settings::count_cells(degrees, settings::TABLE_LIMIT) {
+        return None;
     }
-    n as u64 == settings::count_cells(degrees, settings::TABLE_LIMIT)
-}
-
-// The lesser of a width and 64.
-fn to_64(bits: u32) -> u32
-    ensures { result ≡ min bits 64 }
-{
-    if 64 < bits { 64 } else { bits }
+    Some(Part {
+        degrees,
+        from: 0,
+        count: n,
+        bits: bits.min(64),
+    })
 }
 
 // Fills `out` with the sum of two boxes of coefficients, cell by cell, each kept to bits - q bits, q being the twos in the factorials of its exponents, and 0
@@ -45,8 +46,8 @@ pub fn sum(a: &[u64], b: &[u64], degrees: &[u8], bits: u32, out: &mut [u64])
     if b.len() != out.len() {
         return;
     }
-    if are_cells(degrees, out.len()) {
-        sums::sum_whole(a, b, out, degrees, to_64(bits));
+    if let Some(all) = whole_box(degrees, out.len(), bits) {
+        walk::whole(&Sum { a, b }, out, &all);
     }
 }
 
@@ -56,8 +57,8 @@ pub fn reduce(table: &mut [u64], degrees: &[u8], bits: u32)
     ensures { table.new ≡ cond (holds degrees.now (length table.old))
         (box_reduced (bound (min bits 64)) degrees.now table.old) table.old }
 {
-    if are_cells(degrees, table.len()) {
-        reductions::reduce_whole(table, degrees, to_64(bits));
+    if let Some(all) = whole_box(degrees, table.len(), bits) {
+        walk::whole(&Reduction, table, &all);
     }
 }
 
@@ -67,10 +68,10 @@ pub fn bounded(coeffs: &[u64], degrees: &[u8], bits: u32) -> bool
     ensures { result ≡ (holds degrees.now (length coeffs.now)
         && every (cells degrees.now) (is_below (min bits 64) degrees.now coeffs.now)) }
 {
-    if are_cells(degrees, coeffs.len()) {
-        return tests::bounded_whole(coeffs, degrees, to_64(bits));
-    }
-    false
+    let Some(all) = whole_box(degrees, coeffs.len(), bits) else {
+        return false;
+    };
+    walk::whole(&Bounded { coeffs }, &mut [], &all)
 }
 
 // Whether two boxes of coefficients are equal cell by cell modulo the cells' bounds 2^(bits - q); a width above 64 counts as 64. No where the box has more
@@ -82,8 +83,8 @@ pub fn agree(a: &[u64], b: &[u64], degrees: &[u8], bits: u32) -> bool
     if b.len() != a.len() {
         return false;
     }
-    if are_cells(degrees, a.len()) {
-        return tests::agree_whole(a, b, degrees, to_64(bits));
-    }
-    false
+    let Some(all) = whole_box(degrees, a.len(), bits) else {
+        return false;
+    };
+    walk::whole(&Agreement { a, b }, &mut [], &all)
 }

@@ -1,37 +1,54 @@
 -- What the fit on tables of bytes answers and leaves, in each of its cases.
-use mathlib.Core.Path.{◌≡◌, refl, sym, ◌∙◌, ap, ap₂}
+use mathlib.Core.Path.{◌≡◌, refl, sym, ◌∙◌, ap, ap₂, subst}
 use mathlib.Core.Bool.{Bool, true, false, ◌&&◌, cond}
 use mathlib.Core.List.{List}
-use Prim.Native.Nat.{ℕ, pred, ◌*◌, ◌≤◌, ◌<◌}
-use native.Mathlib.Nat.{suc-ne-zero}
+use Prim.Native.Nat.{ℕ, pred, ◌+◌, ◌*◌, ◌≤◌, ◌<◌, min}
+use native.Mathlib.Nat.{suc-ne-zero, le_trans, le_of_eq, le-mul_of_pos_right, min-eq_left}
 use native.Mathlib.Omega.{arith}
 use lib.Dec.{ltb, eqb}
-use lib.ListN.{length, take, replicate}
-use borrow.Author.Tests.{eq-eqb, eqb-true, lt-ltb, le-ltb, ltb-true, ltb-false}
+use lib.ListN.{length}
+use denote.Ref.{Bor}
+use borrow.Author.Tests.{eq-eqb, eqb-true, lt-ltb, le-ltb, ltb-true}
+use Rattle.std.specs.Prelude.{Result, Ok, Err}
 use Rattle.meaning.specs.Tables.{tabulate}
 use Rattle.meaning.specs.Boxes.{cells}
 use Rattle.meaning.specs.Replies.{Reply, refused}
 use Rattle.meaning.specs.Settings.{byte_limit, cube, first}
 use Rattle.meaning.specs.Calls.{reply, left}
-use Rattle.meaning.specs.Fit.{Fit, fit_of, fit_rows, fit_columns_of, fit_settings_number, fit_cause, fit_number, fit_reply, fit_out, fit_state, fit_succeeds, fit_answer, degree_used_of}
+use Rattle.meaning.specs.Fit.{Fit, fit_of, fit_rows, fit_columns_of, fit_cause, fit_number, fit_reply, fit_out, fit_state, fit_succeeds, fit_answer, degree_used_of}
+use Rattle.meaning.specs.Counts.{fit_room_lem}
+use Rattle.theory.specs.FitSizes.{cells-cube-le, columns_pos}
 use Rattle.answers.specs.declared.Refusal.{Refusal}
-use Rattle.answers.specs.declared.Number.{Number}
 use Rattle.answers.specs.Said.{code, said}
-use Rattle.answers.specs.Laws.{code-suc, number-accepted, value-accepted, number-refused, reply-code, first_code, left-code}
-use Rattle.room.specs.Sizes.{fit_settings, columns_reply}
+use Rattle.answers.specs.Laws.{code-suc, reply-code, first_code, left-code}
+use Rattle.settings.specs.declared.Settings.{Settings}
+use Rattle.settings.specs.Forms.{degrees_of}
+use Rattle.room.specs.declared.sizes.FitRoom.{FitRoom}
+use Rattle.room.specs.declared.sizes.FitSettings.{FitSettings}
+use Rattle.room.specs.Sizes.{fit_settings, fit_asked, answer_of, fit_room_said}
+use Rattle.room.specs.SizeLaws.{told_turned, told_counts}
+use Rattle.weighted_poly_fit.specs.Fits.{Fits}
+use Rattle.demand3.specs.Also.{also₂}
+use Rattle.byte_calls.specs.declared.checks.ByteSettings.{ByteSettings}
+use Rattle.byte_calls.specs.declared.fit.ByteFitSettings.{ByteFitSettings}
 use Rattle.byte_calls.specs.Bytes.{decoded, encoded}
+use Rattle.byte_calls.specs.Forms.{zeros, byte_degrees, fit_settings_on, byte_grid, fit_held_by, fit_lent}
 use Rattle.byte_calls.specs.ByteLaws.{length-decoded}
-use Rattle.byte_calls.specs.Calls.{holds, box_number, fit_held, fit_bytes_cause, fit_bytes_reply, fit_bytes_left}
-use Rattle.byte_calls.specs.TableLaws.{Boxed, zeros, lent-zeros}
+use Rattle.byte_calls.specs.Calls.{holds, fit_bytes_cause, fit_bytes_reply, fit_bytes_left}
+use Rattle.byte_calls.specs.TableLaws.{Boxed, before, boxed, unboxed, length-zeros}
+use Rattle.byte_calls.specs.FitDemands.{fits_of_bytes}
 
--- reply and table of a refused call
-pub record Turned (count : ℕ) (support weights targets out : List ℕ) (f : Fit) (n : ℕ) : Type 0 where
-  pub says : refused n ≡ fit_bytes_reply count support weights targets out f
-  pub leaves : out ≡ fit_bytes_left count support weights targets out f
+-- the support's bytes and the settings of the grid pass, or are turned down
+module _ (s : ByteFitSettings) {g : ByteSettings} (is : g ≡ byte_grid s) {answer : Result ℕ Refusal} (says : said answer ≡ reply (before false g) (cells (byte_degrees g))) where
+  pub grid_boxed : {n : ℕ} → answer ≡ Ok n → Boxed false (byte_grid s) n
+  grid_boxed {n} e = subst (λ (g : ByteSettings). Boxed false g n) is (boxed false g says e)
 
-module _ (count total w : ℕ) (support : List ℕ) (most grid : ℕ) (weights targets out : List ℕ) where
+  pub grid_unboxed : {r : Refusal} → answer ≡ Err r → before false (byte_grid s) ≡ code r
+  grid_unboxed e = sym (ap (before false) is) ∙ unboxed false g says e
+
+module _ (s : ByteFitSettings) (weights targets out : List ℕ) where
   abbrev asked : Fit
-  asked = fit_held total w support most grid weights targets
+  asked = fit_held_by s weights targets
 
   abbrev entries : ℕ
   entries = fit_rows asked * length (fit_columns_of asked)
@@ -39,103 +56,147 @@ module _ (count total w : ℕ) (support : List ℕ) (most grid : ℕ) (weights t
   abbrev lengths : Bool
   lengths = holds weights (fit_rows asked) && holds targets (fit_rows asked) && holds out (cells asked.degrees)
 
-  turned : (r : Refusal) → fit_bytes_cause count support weights targets out asked ≡ code r → Turned count support weights targets out asked (code r)
+  -- what is returned and left, and what they promise
+  abbrev Said : Reply → List ℕ → Type 0
+  Said r t =
+      (r ≡ fit_bytes_reply s.count s.support.now weights targets out asked)
+      × ((t ≡ fit_bytes_left s.count s.support.now weights targets out asked)
+      × Fits s.bitwidth (cube (decoded s.support.now) (min s.max_degree s.grid_degree)) (cube (decoded s.support.now) s.grid_degree) s.max_degree (decoded weights)
+      (decoded targets) r.number r.value (decoded t))
+
+  promised : {r : Reply} {t : List ℕ} → (r ≡ fit_bytes_reply s.count s.support.now weights targets out asked)
+      × (t ≡ fit_bytes_left s.count s.support.now weights targets out asked) → Said r t
+  promised = also₂ (fits_of_bytes s.count s.total s.bitwidth s.support.now s.max_degree s.grid_degree weights targets out)
+
+  turned : (r : Refusal) → fit_bytes_cause s.count s.support.now weights targets out asked ≡ code r → Said (refused (code r)) out
   unfolding fit_bytes_reply fit_bytes_left
-  turned r e = record { says = reply-code r _ (first_code r _ e); leaves = sym (left-code r _ _ e) }
+  turned r e = promised (reply-code r _ (first_code r _ e), sym (left-code r _ _ e))
 
   -- the settings are turned down
-  pub fit_turned : (r : Refusal) → box_number false count total w support (cube (decoded support) grid) ≡ code r
-      → Turned count support weights targets out asked (code r)
+  pub fit_turned : (r : Refusal) → before false (byte_grid s) ≡ code r → Said (refused (code r)) out
   unfolding fit_bytes_cause
   fit_turned r e = turned r (first_code r _ e)
 
-  module _ {rows : ℕ} (b : Boxed false count total w support (cube (decoded support) grid) rows) where
+  module _ {rows : ℕ} (b : Boxed false (byte_grid s) rows) where
     -- what is left where they pass
     cause : (x : Bool) → ltb byte_limit entries ≡ x → (y : Bool) → lengths ≡ y
-        → fit_bytes_cause count support weights targets out asked ≡ first (cond x 8 0) (cond y 0 9)
+        → fit_bytes_cause s.count s.support.now weights targets out asked ≡ first (cond x 8 0) (cond y 0 9)
     unfolding fit_bytes_cause
     cause x e y q = ap₂ first b.number (ap₂ (λ (x y : Bool). first (cond x 8 0) (cond y 0 9)) e q)
 
     -- a matrix that is too large
-    pub fit_large_lem : (r : Refusal) → code r ≡ 8 → byte_limit < entries → Turned count support weights targets out asked (code r)
-    fit_large_lem r q h = turned r (cause true (lt-ltb byte_limit entries h) lengths refl ∙ sym q)
+    pub fit_large_lem : byte_limit < entries → Said (refused 8) out
+    fit_large_lem h = turned Refusal.TooLarge (cause true (lt-ltb byte_limit entries h) lengths refl)
 
     -- a wrong length
-    pub fit-lengths : (r : Refusal) → code r ≡ 9 → entries ≤ byte_limit → lengths ≡ false → Turned count support weights targets out asked (code r)
-    fit-lengths r q h e = turned r (cause false (le-ltb byte_limit entries h) false e ∙ sym q)
+    pub fit-lengths : entries ≤ byte_limit → lengths ≡ false → Said (refused 9) out
+    fit-lengths h e = turned Refusal.WrongLength (cause false (le-ltb byte_limit entries h) false e)
 
-    size : fit_settings_number (fit_settings total w (decoded support) most grid) ≡ cond (ltb 65536 entries) 8 0
-    size = ap (λ (n : ℕ). first n (cond (ltb 65536 entries) 8 0)) b.settles.passes
+    -- the cells of the answer's box are no more than the rows, and these no more than the entries, since there is a column
+    box_le_rows : cells asked.degrees ≤ fit_rows asked
+    box_le_rows = cells-cube-le (length (decoded s.support.now)) s.max_degree s.grid_degree
 
-    -- the columns as the fit counts them from the settings alone
-    module _ {answer : Number} (says : said answer ≡ columns_reply (fit_settings total w (decoded support) most grid)) where
-      -- it counts them where the matrix has no more than 65,536 entries
-      pub fit_sized_lem : {cols : ℕ} → answer ≡ Number.Value cols → (cols ≡ length (fit_columns_of asked)) × (rows * cols ≤ 65536)
-      fit_sized_lem {cols} e =
-          let told = sym (ap said e) ∙ says in
-          let number = fit_settings_number (fit_settings total w (decoded support) most grid) in
-          let none = sym size ∙ number-accepted number (length (fit_columns_of asked)) told in
-          let counted = value-accepted number (length (fit_columns_of asked)) told in (
-            counted,
-            rw (ap₂ ◌*◌ b.settles.counted counted) (ltb-false 65536 entries (is_false (ltb 65536 entries) none)),
-          )
-        where
-          is_false : (x : Bool) → ◌≡◌ {A = ℕ} (cond x 8 0) 0 → x ≡ false
-          is_false true p = absurd (suc-ne-zero 7 p)
-          is_false false p = refl
+    rows_le : fit_rows asked ≤ entries
+    rows_le = le-mul_of_pos_right (fit_rows asked) (columns_pos asked.degrees s.max_degree)
 
-      -- and says 8 else
-      pub fit_wide : {r : Refusal} → answer ≡ Number.Refused r → Turned count support weights targets out asked (code r)
-      fit_wide {r} e = by_cases (ltb 65536 entries) refl
-        where
-          told : cond (ltb 65536 entries) 8 0 ≡ code r
-          told = sym size ∙ number-refused r (fit_settings_number (fit_settings total w (decoded support) most grid)) (length (fit_columns_of asked)) (sym (ap said e) ∙ says)
+    few : length (decoded s.support.now) ≤ 20
+    few = le_trans (le_of_eq (length-decoded s.support.now s.count b.held.bytes)) b.held.few
 
-          by_cases : (x : Bool) → ltb 65536 entries ≡ x → Turned count support weights targets out asked (code r)
-          by_cases true q =
-              let h = ltb-true 65536 entries q in
-              fit_large_lem r (sym told ∙ ap (λ (x : Bool). cond x 8 0) q) (omega (arith, h))
-          by_cases false q = absurd (suc-ne-zero (pred (code r)) (sym (code-suc r) ∙ sym told ∙ ap (λ (x : Bool). cond x 8 0) q))
+    -- the settings on the indices that the support's bytes hold
+    module _ {on : FitSettings} {indices : Bor (List ℕ)} (is : on ≡ fit_settings_on s indices) (held : indices.now ≡ decoded s.support.now) where
+      sized : fit_room_lem (fit_asked on) ≡ fit_room_lem (fit_settings s.total s.bitwidth (decoded s.support.now) s.max_degree s.grid_degree)
+      sized =
+          ap (λ (o : FitSettings). fit_room_lem (fit_asked o)) is
+          ∙ ap (λ (t : List ℕ). fit_room_lem (fit_settings s.total s.bitwidth t s.max_degree s.grid_degree)) held
 
-    -- the call on the tables, with room of the exact sizes
-    module _ (small : entries ≤ byte_limit) (hw : holds weights (fit_rows asked) ≡ true) (ht : holds targets (fit_rows asked) ≡ true)
-        (ho : holds out (cells asked.degrees) ≡ true) (matrix right found : List ℕ) (lm : length matrix ≡ entries)
-        (lr : length right ≡ fit_rows asked) (lf : length found ≡ cells asked.degrees) where
-      abbrev lent : Fit
-      lent = fit_of total w (decoded support) most grid (decoded weights) (decoded targets) matrix right found
+      -- the degrees of the answer's box
+      pub degrees_held : {a : Settings} {ds : List ℕ} → a ≡ answer_of on → (length a.support.now ≤ 20 → ds ≡ degrees_of a) → ds ≡ asked.degrees
+      degrees_held {a} {ds} e all =
+          let box : List ℕ → List ℕ = λ t. cube t (min s.max_degree s.grid_degree) in
+          let lent = subst (λ (a : Settings). length a.support.now ≤ 20 → ds ≡ degrees_of a) (e ∙ ap answer_of is) all in
+          lent (le_trans (le_of_eq (ap length held)) few) ∙ ap box held
 
-      long : (bytes : List ℕ) → holds bytes (fit_rows asked) ≡ true → eqb (length (decoded bytes)) (fit_rows asked) ≡ true
-      long bytes e = eq-eqb _ _ (length-decoded bytes (fit_rows asked) (eqb-true _ _ e))
+      -- the sizes as the room of the fit says them
+      module _ {answer : Result FitRoom Refusal} (says : fit_room_said answer ≡ fit_room_lem (fit_asked on)) where
+        -- it says 8 where the matrix has more than 65,536 entries
+        pub fit_wide : {r : Refusal} → answer ≡ Err r → Said (refused (code r)) out
+        fit_wide {r} e = by_cases (ltb 65536 entries) refl
+          where
+            told : cond (ltb 65536 entries) 8 0 ≡ code r
+            told =
+                sym (ap (λ (n : ℕ). first n (cond (ltb 65536 entries) 8 0)) b.settles.passes)
+                ∙ told_turned (fit_settings s.total s.bitwidth (decoded s.support.now) s.max_degree s.grid_degree) r (sym (ap fit_room_said e) ∙ says ∙ sized)
 
-      lent-cause : fit_cause lent ≡ 0
-      unfolding fit_cause
-      lent-cause =
-          ap₂ first (ap₂ first b.settles.passes (ap (λ (x : Bool). cond x 8 0) (le-ltb 65536 entries (omega (arith, small)))))
-          (ap (λ (y : Bool). cond y 0 9)
-          (ap₂ ◌&&◌ (ap₂ ◌&&◌ (ap₂ ◌&&◌ (ap₂ ◌&&◌ (long weights hw) (long targets ht)) (eq-eqb _ _ lm)) (eq-eqb _ _ lr)) (eq-eqb _ _ lf)))
+            by_cases : (x : Bool) → ltb 65536 entries ≡ x → Said (refused (code r)) out
+            by_cases true q =
+                let large : byte_limit < entries = omega (arith, ltb-true 65536 entries q) in
+                turned r (cause true (lt-ltb byte_limit entries large) lengths refl ∙ sym (ap (λ (x : Bool). cond x 8 0) q) ∙ told)
+            by_cases false q = absurd (suc-ne-zero (pred (code r)) (sym (code-suc r) ∙ sym told ∙ ap (λ (x : Bool). cond x 8 0) q))
 
-      held-cause : fit_bytes_cause count support weights targets out asked ≡ 0
-      held-cause = cause false (le-ltb byte_limit entries small) true (ap₂ ◌&&◌ (ap₂ ◌&&◌ hw ht) ho)
+        -- and the rows and entries else
+        pub fit_sized : {needs : FitRoom} → answer ≡ Ok needs → (needs.rows ≡ fit_rows asked) × (needs.entries ≡ entries)
+        fit_sized e =
+            let told = told_counts (fit_settings s.total s.bitwidth (decoded s.support.now) s.max_degree s.grid_degree) (sym (ap fit_room_said e) ∙ says ∙ sized) in
+            (told.row_count, told.entry_count)
 
-      pub fit_done : {r : Reply} {t : List ℕ} → r ≡ fit_reply lent → t ≡ encoded (fit_out lent)
-          → (r ≡ fit_bytes_reply count support weights targets out asked) × (t ≡ fit_bytes_left count support weights targets out asked)
-      unfolding fit_reply fit_number fit_out fit_bytes_reply fit_bytes_left fit_succeeds fit_answer fit_state
-      fit_done p q =
-          let said = degree_used_of asked.degrees (fit_answer asked) in
-          let ends : ℕ = cond (fit_succeeds asked) 0 10 in
-          let done = cond (fit_succeeds asked) (fit_answer asked) (tabulate (cells asked.degrees) (λ n. 0)) in (
-            p ∙ ap (λ (n : ℕ). reply (first n ends) said) (lent-cause ∙ sym held-cause),
-            q ∙ ap (λ (n : ℕ). encoded (left n done found)) lent-cause ∙ ap (λ (n : ℕ). left n (encoded done) out) (sym held-cause),
-          )
+      -- the matrix is small enough, and so many cells are counted
+      module _ {points size : ℕ} (sizes : (points ≡ fit_rows asked) × (size ≡ entries)) (small : size ≤ byte_limit) {count : ℕ} {ds : List ℕ}
+          (lent : ds ≡ asked.degrees) (counts : count ≡ min (cells ds) (byte_limit + 1)) where
+        small_matrix : entries ≤ byte_limit
+        small_matrix = le_trans (le_of_eq (sym sizes.1)) small
 
--- the tables that are lent are zeros
-pub lent_fitted : (total w : ℕ) (support : List ℕ) (most grid : ℕ) (v u : List ℕ) (n rows cells room : ℕ) → n ≤ room → rows ≤ room → cells ≤ room
-    → {r : Reply} {t : List ℕ}
-    → let f = fit_of total w support most grid v u (take n (replicate room 0)) (take rows (replicate room 0)) (take cells (replicate room 0)) in
-    (r ≡ fit_reply f) × (t ≡ encoded (fit_out f))
-    → let f = fit_of total w support most grid v u (zeros n) (zeros rows) (zeros cells) in (r ≡ fit_reply f) × (t ≡ encoded (fit_out f))
-lent_fitted total w support most grid v u n rows cells room h j k (e, l) =
-    let fit : List ℕ → List ℕ → List ℕ → Fit = λ x y z. fit_of total w support most grid v u x y z in
-    let same = ap₂ (λ (x y : List ℕ). fit x y (take cells (replicate room 0))) (lent-zeros n room h) (lent-zeros rows room j)
-    ∙ ap (fit (zeros n) (zeros rows)) (lent-zeros cells room k) in
-    (e ∙ ap fit_reply same, l ∙ ap (λ (f : Fit). encoded (fit_out f)) same)
+        counted : count ≡ cells asked.degrees
+        counted = counts ∙ ap (λ (l : List ℕ). min (cells l) (byte_limit + 1)) lent ∙ min-eq_left (omega (arith, box_le_rows, rows_le, small_matrix))
+
+        -- what is asked of each table's room
+        pub fit_fits : (points ≤ size) × (count ≤ size)
+        fit_fits = (omega (arith, sizes.0, sizes.1, rows_le), omega (arith, counted, box_le_rows, rows_le, sizes.1))
+
+        tested : (holds weights points && holds targets points && holds out count) ≡ lengths
+        tested = ap₂ (λ (i j : ℕ). holds weights i && holds targets i && holds out j) sizes.0 counted
+
+        -- a wrong length
+        pub fit_uneven : (holds weights points && holds targets points && holds out count) ≡ false → Said (refused 9) out
+        fit_uneven e = fit-lengths small_matrix (sym tested ∙ e)
+
+        -- the call on the tables
+        module _ (hw : holds weights points ≡ true) (ht : holds targets points ≡ true) (ho : holds out count ≡ true) where
+          abbrev lent_fit : Fit
+          lent_fit =
+              fit_of s.total s.bitwidth (decoded s.support.now) s.max_degree s.grid_degree (decoded weights) (decoded targets) (zeros size)
+              (zeros points) (zeros count)
+
+          long : (bytes : List ℕ) → holds bytes points ≡ true → eqb (length (decoded bytes)) (fit_rows asked) ≡ true
+          long bytes e = eq-eqb _ _ (length-decoded bytes points (eqb-true _ _ e) ∙ sizes.0)
+
+          lent-cause : fit_cause lent_fit ≡ 0
+          unfolding fit_cause
+          lent-cause =
+              ap₂ first (ap₂ first b.settles.passes (ap (λ (x : Bool). cond x 8 0) (le-ltb 65536 entries (omega (arith, small_matrix)))))
+              (ap (λ (y : Bool). cond y 0 9)
+              (ap₂ ◌&&◌ (ap₂ ◌&&◌ (ap₂ ◌&&◌ (ap₂ ◌&&◌ (long weights hw) (long targets ht)) (eq-eqb _ _ (length-zeros _ ∙ sizes.1)))
+              (eq-eqb _ _ (length-zeros _ ∙ sizes.0))) (eq-eqb _ _ (length-zeros _ ∙ counted))))
+
+          held-cause : fit_bytes_cause s.count s.support.now weights targets out asked ≡ 0
+          held-cause = cause false (le-ltb byte_limit entries small_matrix) true (sym tested ∙ ap₂ ◌&&◌ (ap₂ ◌&&◌ hw ht) ho)
+
+          on_held : fit_lent on weights targets size points count ≡ lent_fit
+          on_held =
+              ap (λ (o : FitSettings). fit_lent o weights targets size points count) is
+              ∙ ap (λ (t : List ℕ). fit_of s.total s.bitwidth t s.max_degree s.grid_degree (decoded weights) (decoded targets) (zeros size) (zeros points)
+              (zeros count)) held
+
+          pub fit_done : {r : Reply} {t : List ℕ} → r ≡ fit_reply (fit_lent on weights targets size points count)
+              → t ≡ encoded (fit_out (fit_lent on weights targets size points count)) → Said r t
+          unfolding fit_reply fit_number fit_out fit_bytes_reply fit_bytes_left fit_succeeds fit_answer fit_state
+          fit_done p q =
+              let said = degree_used_of asked.degrees (fit_answer asked) in
+              let ends : ℕ = cond (fit_succeeds asked) 0 10 in
+              let done = cond (fit_succeeds asked) (fit_answer asked) (tabulate (cells asked.degrees) (λ n. 0)) in
+              promised (
+                p ∙ ap fit_reply on_held ∙ ap (λ (n : ℕ). reply (first n ends) said) (lent-cause ∙ sym held-cause),
+                q
+                    ∙ ap (λ (f : Fit). encoded (fit_out f)) on_held
+                    ∙ ap (λ (n : ℕ). encoded (left n done (zeros count))) lent-cause
+                    ∙ ap (λ (n : ℕ). left n (encoded done) out) (sym held-cause),
+              )

@@ -2,18 +2,15 @@
 use mathlib.Core.Path.{◌≡◌, refl, sym, ◌∙◌, ap}
 use mathlib.Core.Bool.{Bool, true, false, cond}
 use mathlib.Core.List.{List}
-use Prim.Native.Nat.{ℕ, ◌+◌, ◌*◌, ◌/◌, ◌%◌, ◌≤◌, ◌<◌}
+use Prim.Native.Nat.{ℕ, ◌*◌, ◌/◌, ◌%◌}
 use native.Mathlib.Omega.{arith}
-use lib.Dec.{leb, eqb}
-use lib.ListN.{length, drop}
+use lib.Dec.{eqb}
+use lib.ListN.{length}
 use borrow.Author.Tests.{eq-eqb, ne_eqb, eqb-true, eqb-false}
-use Rattle.meaning.specs.Tables.{at}
 use Rattle.meaning.specs.Replies.{Reply, refused}
-use Rattle.meaning.specs.Settings.{fits_width, some, small_number, first}
+use Rattle.meaning.specs.Settings.{fits_width, small_number, first}
 use Rattle.meaning.specs.Calls.{reply}
-use Rattle.theory.specs.Tables.{at-tabulate, length-tabulate}
-use Rattle.settings.specs.Indices.{some-found, some_next, some_end}
-use Rattle.byte_calls.specs.Bytes.{number_at, decoded}
+use Rattle.byte_calls.specs.Bytes.{decoded}
 use Rattle.byte_calls.specs.Calls.{holds, box_number}
 
 -- ---- bytes of a count of entries
@@ -31,27 +28,6 @@ holds_even bytes n h = by_cases (eqb (length bytes / 8) n) refl
     by_cases : (b : Bool) → eqb (length bytes / 8) n ≡ b → b ≡ holds bytes n
     by_cases true e = sym (eq-eqb (length bytes) (n * 8) (omega (arith, h, eqb-true (length bytes / 8) n e)))
     by_cases false e = sym (ne_eqb _ _ (λ (q : length bytes ≡ n * 8). eqb-false (length bytes / 8) n e (omega (arith, q))))
-
--- ---- the loop over the indices of a support of bytes
-
-module _ (support : List ℕ) (total i : ℕ) where
-  at-decoded : i < length support / 8 → at (decoded support) i ≡ number_at support (i * 8) 8
-  unfolding decoded
-  at-decoded h = at-tabulate (length support / 8) _ i h
-
-  long : length (decoded support) ≡ length support / 8
-  unfolding decoded
-  long = length-tabulate _ _
-
-  pub past-found : i < length support / 8 → leb total (number_at support (i * 8) 8) ≡ true → some (leb total) (drop i (decoded support)) ≡ true
-  past-found h e = some-found (leb total) (decoded support) i (rw long h) (ap (leb total) (at-decoded h) ∙ e)
-
-  pub past_next : i < length support / 8 → leb total (number_at support (i * 8) 8) ≡ false
-      → some (leb total) (drop i (decoded support)) ≡ some (leb total) (drop (i + 1) (decoded support))
-  past_next h e = some_next (leb total) (decoded support) i (rw long h) (ap (leb total) (at-decoded h) ∙ e)
-
-  pub past_end : length support / 8 ≤ i → some (leb total) (drop i (decoded support)) ≡ false
-  past_end h = some_end (leb total) (decoded support) i (rw long h)
 
 -- ---- the support's bytes, then the settings
 

@@ -1,114 +1,65 @@
-// The checks that all calls share: the support's bytes, then the settings on the support that they hold.
-ghost use Rattle.std.specs.Prelude.{◌≡◌, ◌*◌, ◌<◌, leb, length};
+// The settings of a call on bytes, and the checks that all calls share: the support's bytes, then the settings on the support that they hold.
+ghost use Rattle.std.specs.Prelude.{◌≡◌};
 ghost use Rattle.meaning.specs.Boxes.{cells};
-ghost use Rattle.meaning.specs.Settings.{fits_width, cube, some, small_number};
+ghost use Rattle.meaning.specs.Settings.{fits_width, small_number, cube};
 ghost use Rattle.meaning.specs.Calls.{reply};
 ghost use Rattle.answers.specs.Said.{said};
-ghost use Rattle.settings.specs.Causes.{stand_in_of};
-ghost use Rattle.byte_calls.specs.Bytes.{decoded};
-ghost use Rattle.byte_calls.specs.Calls.{holds, box_number};
+ghost use Rattle.byte_calls.specs.Calls.{box_number};
+ghost use Rattle.byte_calls.specs.Forms.{byte_degrees, settings_on};
 
 use crate::codec;
-use answers::{Number, Refusal};
+use crate::indices::{self, Indices};
+use answers::Refusal;
+use settings::Settings;
 
-// Whether the bytes are those of `count` entries, for any count.
-pub(crate) fn holds(bytes: &[u8], count: u64) -> bool
-    ensures { result ≡ holds bytes.now count }
-{
-    if bytes.len() % 8 != 0 {
-        return false;
-    }
-    (bytes.len() / 8) as u64 == count
+// The settings of a call on bytes: the support, of `count` indices, the number of variables in all, the width, and the highest degree, which every support
+// variable has.
+#[derive(Clone, Copy)]
+pub struct ByteSettings<'a> {
+    pub support: &'a [u8],
+    pub count: u64,
+    pub total: u32,
+    pub bitwidth: u32,
+    pub max_degree: u8,
 }
 
-// Whether some index is not below the total.
-fn index_past(support: &[u8], total: u32) -> bool
-    ensures { result ≡ some (leb total) (decoded support.now) }
-{
-    let limit = total as u64;
-    let count = support.len() / 8;
-    let mut i = 0;
-    while i < count {
-        if limit <= codec::entry_at(support, i * 8) {
-            return true;
+impl<'a> ByteSettings<'a> {
+    // The settings with these indices as support.
+    pub(crate) fn on<'b>(&self, indices: &'b [u64]) -> Settings<'b>
+        ensures { result ≡ settings_on self.now indices.entry }
+    {
+        Settings {
+            support: indices,
+            total: self.total,
+            bitwidth: self.bitwidth,
+            max_degree: self.max_degree,
         }
-        i += 1;
     }
-    false
-}
 
-// An index that is past the total where one of the support is.
-fn stand_in(support: &[u8], total: u32) -> u64
-    ensures { result ≡ stand_in_of total (decoded support.now) }
-{
-    if index_past(support, total) {
-        return total as u64;
+    // The check of the settings with these indices as support.
+    fn check_on(&self, indices: &[u64], strict: bool) -> Result<u64, Refusal>
+        ensures { let s = self.now in said result ≡ reply (small_number strict s.total (fits_width s.bitwidth) indices.now (cube indices.now s.max_degree))
+            (cells (cube indices.now s.max_degree)) }
+    {
+        let fits = settings::width_fits(self.bitwidth);
+        self.on(indices)
+            .check_within(settings::BYTE_LIMIT, strict, fits)
     }
-    0
-}
 
-// Settings with more than twenty indices. Below a total of at most twenty they cannot be distinct, so that they are turned down as one index is that stands
-// twice, past the total where one of them is.
-fn crowded(strict: bool, support: &[u8], total: u32, width: u32, degree: u8) -> Number
-    requires { 20 < length (decoded support.now) }
-    ensures { said result ≡ reply (small_number strict total (fits_width width) (decoded support.now) (cube (decoded support.now) degree))
-        (cells (cube (decoded support.now) degree)) }
-{
-    let twice = [stand_in(support, total); 2];
-    settings::check_within(
-        settings::BYTE_LIMIT,
-        strict,
-        &twice,
-        total,
-        settings::width_fits(width),
-        degree,
-    )
-}
-
-// The settings on a support of bytes, with room lent for its indices.
-fn check_in(
-    strict: bool,
-    support: &[u8],
-    total: u32,
-    width: u32,
-    degree: u8,
-    indices: &mut [u64],
-) -> Number
-    requires { length support.now ≡ length indices.old * 8 }
-    ensures { said result ≡ reply (small_number strict total (fits_width width) (decoded support.now) (cube (decoded support.now) degree))
-        (cells (cube (decoded support.now) degree)) }
-{
-    codec::decode(support, indices);
-    settings::check_within(
-        settings::BYTE_LIMIT,
-        strict,
-        indices,
-        total,
-        settings::width_fits(width),
-        degree,
-    )
-}
-
-// The support's bytes and the settings: the number of cells, at most 4,096, or the first cause to turn the call down, in the order 9 (the support's bytes),
-// 1, 2, 3, 4 (where `strict`), 5, 7, 8.
-pub(crate) fn check(
-    strict: bool,
-    support: &[u8],
-    count: u64,
-    total: u32,
-    width: u32,
-    degree: u8,
-) -> Number
-    ensures { said result ≡ reply (box_number strict count total width support.now (cube (decoded support.now) degree))
-        (cells (cube (decoded support.now) degree)) }
-{
-    if !holds(support, count) {
-        return Number::Refused(Refusal::WrongLength);
+    // The support's bytes and the settings: the number of cells, at most 4,096, or the first cause to turn the call down, in the order 9 (the support's
+    // bytes), 1, 2, 3, 4 (where `strict`), 5, 7, 8. More than twenty indices, below a total of at most twenty, cannot be distinct, so that they are turned
+    // down as one index is that stands twice, past the total where one of them is.
+    pub(crate) fn check(&self, strict: bool) -> Result<u64, Refusal>
+        ensures { let s = self.now in said result ≡ reply (box_number strict s.count s.total s.bitwidth s.support.now (byte_degrees s)) (cells (byte_degrees s)) }
+    {
+        if !codec::holds(self.support, self.count) {
+            return Err(Refusal::WrongLength);
+        }
+        if 20 < self.count {
+            let twice = [indices::stand_in(self.support, self.total); 2];
+            return self.check_on(&twice, strict);
+        }
+        let indices = Indices::of(self.support);
+        self.check_on(indices.as_slice(), strict)
     }
-    if 20 < count {
-        return crowded(strict, support, total, width, degree);
-    }
-    let mut indices = [0u64; 20];
-    let known = count as usize;
-    check_in(strict, support, total, width, degree, &mut indices[..known])
 }

@@ -1,205 +1,94 @@
 // The weighted fit on tables of bytes. Its matrix and its right side are kept inside (rooms).
-ghost use Rattle.std.specs.Prelude.{◌≡◌, false, ◌&&◌, ◌*◌, ◌≤◌, min, length};
+ghost use Rattle.std.specs.Prelude.{◌≡◌, min};
 ghost use Rattle.meaning.specs.Settings.{cube};
-ghost use Rattle.meaning.specs.Fit.{fit_columns_of};
 ghost use Rattle.answers.specs.Said.{said};
 ghost use Rattle.weighted_poly_fit.specs.Fits.{Fits};
 ghost use Rattle.byte_calls.specs.Bytes.{decoded};
-ghost use Rattle.byte_calls.specs.Calls.{holds, fit_held, fit_bytes_reply, fit_bytes_left};
-ghost use Rattle.byte_calls.specs.TableLaws.{Boxed};
+ghost use Rattle.byte_calls.specs.Calls.{fit_bytes_reply, fit_bytes_left};
+ghost use Rattle.byte_calls.specs.Forms.{byte_grid, fit_settings_on, fit_held_by};
 
-use crate::{checks, rooms};
-use answers::{Number, Refusal};
+use crate::checks::ByteSettings;
+use crate::indices::Indices;
+use crate::{codec, rooms};
+use answers::Refusal;
+use room::sizes;
+use room::sizes::FitSettings;
 
-// Whether the tables have an entry for each grid cell and for each cell of the answer's box.
-fn lengths_fit(weights: &[u8], targets: &[u8], out: &[u8], rows: u64, cells: u64) -> bool
-    ensures { result ≡ (holds weights.now rows && holds targets.now rows && holds out.now cells) }
-{
-    if !checks::holds(weights, rows) {
-        return false;
-    }
-    if !checks::holds(targets, rows) {
-        return false;
-    }
-    checks::holds(out, cells)
+// The settings of a fit on bytes: the support, of `count` indices, the number of variables in all, the width, the highest sum of exponents, and the degree of
+// the grid, which every support variable has.
+#[derive(Clone, Copy)]
+pub struct ByteFitSettings<'a> {
+    pub support: &'a [u8],
+    pub count: u64,
+    pub total: u32,
+    pub bitwidth: u32,
+    pub max_degree: u8,
+    pub grid_degree: u8,
 }
 
-// The fit where support and settings pass, of `rows` grid cells and `cols` columns.
-fn fit_sized(
-    weights: &[u8],
-    targets: &[u8],
-    support: &[u8],
-    count: u64,
-    total: u32,
-    width: u32,
-    max_degree: u8,
-    grid_degree: u8,
-    rows: u64,
-    cols: u64,
-    out: &mut [u8],
-) -> Number
-    requires boxed { Boxed false count total width support.now (cube (decoded support.now) grid_degree) rows }
-    requires cols_value { (cols ≡ length (fit_columns_of (fit_held total width support.now max_degree grid_degree weights.now targets.now))) × (rows * cols ≤ 65536) }
-    ensures says { said result ≡ fit_bytes_reply count support.now weights.now targets.now out.old
-        (fit_held total width support.now max_degree grid_degree weights.now targets.now) }
-    ensures leaves { out.new ≡ fit_bytes_left count support.now weights.now targets.now out.old
-        (fit_held total width support.now max_degree grid_degree weights.now targets.now) }
-{
-    let entries = rows * cols;
-    if (settings::BYTE_LIMIT as u64) < entries {
-        return Number::Refused(Refusal::TooLarge);
+impl<'a> ByteFitSettings<'a> {
+    // The settings of the grid.
+    fn grid(&self) -> ByteSettings<'a>
+        ensures { result ≡ byte_grid self.now }
+    {
+        ByteSettings {
+            support: self.support,
+            count: self.count,
+            total: self.total,
+            bitwidth: self.bitwidth,
+            max_degree: self.grid_degree,
+        }
     }
-    let degree = room::sizes::lesser_degree(max_degree, grid_degree);
-    let degrees = [degree; 20];
-    let known = count as usize;
-    let cells = settings::count_cells(&degrees[..known], settings::BYTE_LIMIT);
-    if !lengths_fit(weights, targets, out, rows, cells) {
-        return Number::Refused(Refusal::WrongLength);
-    }
-    if entries <= 128 {
-        return rooms::fit_small(
-            weights,
-            targets,
-            support,
-            count,
-            total,
-            width,
-            max_degree,
-            grid_degree,
-            rows,
-            cols,
-            cells,
-            out,
-        );
-    }
-    rooms::fit_large(
-        weights,
-        targets,
-        support,
-        count,
-        total,
-        width,
-        max_degree,
-        grid_degree,
-        rows,
-        cols,
-        cells,
-        out,
-    )
-}
 
-// The fit where support and settings pass, of `rows` grid cells.
-fn fit_settled(
-    weights: &[u8],
-    targets: &[u8],
-    support: &[u8],
-    count: u64,
-    total: u32,
-    width: u32,
-    max_degree: u8,
-    grid_degree: u8,
-    rows: u64,
-    out: &mut [u8],
-) -> Number
-    requires { Boxed false count total width support.now (cube (decoded support.now) grid_degree) rows }
-    ensures says { said result ≡ fit_bytes_reply count support.now weights.now targets.now out.old
-        (fit_held total width support.now max_degree grid_degree weights.now targets.now) }
-    ensures leaves { out.new ≡ fit_bytes_left count support.now weights.now targets.now out.old
-        (fit_held total width support.now max_degree grid_degree weights.now targets.now) }
-{
-    let mut indices = [0u64; 20];
-    let known = count as usize;
-    match rooms::columns_in(
-        support,
-        total,
-        width,
-        max_degree,
-        grid_degree,
-        &mut indices[..known],
-    ) {
-        Number::Refused(refusal) => Number::Refused(refusal),
-        Number::Value(cols) => fit_sized(
-            weights,
-            targets,
-            support,
-            count,
-            total,
-            width,
-            max_degree,
-            grid_degree,
-            rows,
-            cols,
-            out,
-        ),
+    // The settings with these indices as support.
+    fn on<'b>(&self, indices: &'b [u64]) -> FitSettings<'b>
+        ensures { result ≡ fit_settings_on self.now indices.entry }
+    {
+        FitSettings {
+            support: indices,
+            total: self.total,
+            bitwidth: self.bitwidth,
+            max_degree: self.max_degree,
+            grid_degree: self.grid_degree,
+        }
     }
 }
 
-// The fit, by its equations.
-fn weighted_fit(
-    weights: &[u8],
-    targets: &[u8],
-    support: &[u8],
-    count: u64,
-    total: u32,
-    width: u32,
-    max_degree: u8,
-    grid_degree: u8,
-    out: &mut [u8],
-) -> Number
-    ensures says { said result ≡ fit_bytes_reply count support.now weights.now targets.now out.old
-        (fit_held total width support.now max_degree grid_degree weights.now targets.now) }
-    ensures leaves { out.new ≡ fit_bytes_left count support.now weights.now targets.now out.old
-        (fit_held total width support.now max_degree grid_degree weights.now targets.now) }
-{
-    match checks::check(false, support, count, total, width, grid_degree) {
-        Number::Refused(refusal) => Number::Refused(refusal),
-        Number::Value(rows) => fit_settled(
-            weights,
-            targets,
-            support,
-            count,
-            total,
-            width,
-            max_degree,
-            grid_degree,
-            rows,
-            out,
-        ),
-    }
-}
-
-// Fits a polynomial in falling factorials to weighted targets on the grid {0, .., grid_degree} over the support variables, modulo 2^width: exponents reach at
-// most the smaller of max_degree and grid_degree, their sum at most max_degree. `support` has `count` indices, `weights` and `targets` an entry for each grid
-// point, and `out` gets a coefficient for each cell of the box of that smaller degree; the result is the largest total degree among those that are not 0.
-// Refused in the order 9 (the support's bytes), 1, 2, 3, 5, 7, 8 (the grid or the matrix has more than 4,096 entries), 9 (the other tables' bytes), when `out`
-// is as it was, and then for 10 where the elimination finds no answer, when all bytes of `out` are 0. The other tables are not altered.
+// Fits a polynomial in falling factorials to weighted targets on the grid {0, .., grid_degree} over the support variables, modulo 2^bitwidth: exponents reach
+// at most the smaller of max_degree and grid_degree, their sum at most max_degree. `weights` and `targets` have an entry for each grid point, and `out` gets a
+// coefficient for each cell of the box of that smaller degree; the result is the largest total degree among those that are not 0. Refused in the order 9 (the
+// support's bytes), 1, 2, 3, 5, 7, 8 (the grid or the matrix has more than 4,096 entries), 9 (the other tables' bytes), when `out` is as it was, and then for
+// 10 where the elimination finds no answer, when all bytes of `out` are 0. The other tables are not altered.
 pub fn fit(
     weights: &[u8],
     targets: &[u8],
-    support: &[u8],
-    count: u64,
-    total: u32,
-    width: u32,
-    max_degree: u8,
-    grid_degree: u8,
+    settings: &ByteFitSettings,
     out: &mut [u8],
-) -> Number
-    ensures says { said result ≡ fit_bytes_reply count support.now weights.now targets.now out.old
-        (fit_held total width support.now max_degree grid_degree weights.now targets.now) }
-    ensures leaves { out.new ≡ fit_bytes_left count support.now weights.now targets.now out.old
-        (fit_held total width support.now max_degree grid_degree weights.now targets.now) }
-    ensures fits { Fits width (cube (decoded support.now) (min max_degree grid_degree)) (cube (decoded support.now) grid_degree)
-        max_degree (decoded weights.now) (decoded targets.now) (said result).number (said result).value (decoded out.new) }
+) -> Result<u64, Refusal>
+    ensures says { let s = settings.now in said result ≡ fit_bytes_reply s.count s.support.now weights.now targets.now out.old
+        (fit_held_by s weights.now targets.now) }
+    ensures leaves { let s = settings.now in out.new ≡ fit_bytes_left s.count s.support.now weights.now targets.now out.old
+        (fit_held_by s weights.now targets.now) }
+    ensures fits { let s = settings.now in Fits s.bitwidth (cube (decoded s.support.now) (min s.max_degree s.grid_degree)) (cube (decoded s.support.now) s.grid_degree)
+        s.max_degree (decoded weights.now) (decoded targets.now) (said result).number (said result).value (decoded out.new) }
 {
-    weighted_fit(
-        weights,
-        targets,
-        support,
-        count,
-        total,
-        width,
-        max_degree,
-        grid_degree,
-        out,
-    )
+    settings.grid().check(false)?;
+    let indices = Indices::of(settings.support);
+    let asked = settings.on(indices.as_slice());
+    let needs = sizes::fit_room(&asked)?;
+    if (settings::BYTE_LIMIT as u64) < needs.entries {
+        return Err(Refusal::TooLarge);
+    }
+    let degrees = asked.answer().degrees();
+    let cells = settings::count_cells(degrees.as_slice(), settings::BYTE_LIMIT);
+    if !codec::holds(weights, needs.rows)
+        || !codec::holds(targets, needs.rows)
+        || !codec::holds(out, cells)
+    {
+        return Err(Refusal::WrongLength);
+    }
+    if needs.entries <= 128 {
+        return rooms::fit_in::<128>(weights, targets, &asked, needs, cells as usize, out);
+    }
+    rooms::fit_large(weights, targets, &asked, needs, cells as usize, out)
 }

@@ -5,16 +5,19 @@ ghost use Rattle.meaning.specs.Settings.{cube, fits_width};
 ghost use Rattle.demand3.specs.Words.{GridSum, Contains};
 ghost use Rattle.demand3.specs.Settings.{CallPasses};
 ghost use Rattle.answers.specs.Said.{said_number};
+ghost use Rattle.settings.specs.Forms.{degrees_of};
 
-use answers::Outcome;
+use crate::TwoOutcomes;
+use answers::Refusal;
+use settings::Settings;
 
-// What four calls said.
+// What three recoveries and a sum said.
 #[derive(Clone, Copy)]
 struct SumOutcomes {
-    first: Outcome,
-    second: Outcome,
-    whole: Outcome,
-    sum: Outcome,
+    first: Result<(), Refusal>,
+    second: Result<(), Refusal>,
+    whole: Result<(), Refusal>,
+    sum: Result<(), Refusal>,
 }
 
 // Where two grids are accepted, so is their sum, and its answer is the sum of their answers: `u` and `v` are recovered to `a` and `b`, and `t`, their sum, to
@@ -23,67 +26,49 @@ fn recover_sum(
     u: &[u64],
     v: &[u64],
     t: &[u64],
-    support: &[u64],
-    total: u32,
-    width: u32,
-    degree: u8,
+    settings: &Settings,
     a: &mut [u64],
     b: &mut [u64],
     c: &mut [u64],
     s: &mut [u64],
 ) -> SumOutcomes
-    ensures { GridSum width (cube support.now degree) u.now v.now t.now
+    ensures { let ds = degrees_of settings.now in GridSum settings.now.bitwidth ds u.now v.now t.now
         → said_number result.first ≡ 0 → said_number result.second ≡ 0
-        → length t.now ≡ cells (cube support.now degree)
-        → length c.old ≡ cells (cube support.now degree)
-        → length s.old ≡ cells (cube support.now degree)
+        → length t.now ≡ cells ds → length c.old ≡ cells ds → length s.old ≡ cells ds
         → (said_number result.whole ≡ 0) × (said_number result.sum ≡ 0) × (s.new ≡ c.new) }
 {
-    let first = multivar_poly_recovery::recover_multivar_poly(u, support, total, width, degree, a);
-    let second = multivar_poly_recovery::recover_multivar_poly(v, support, total, width, degree, b);
-    let whole = multivar_poly_recovery::recover_multivar_poly(t, support, total, width, degree, c);
-    let sum = poly::sum(a, b, support, total, width, degree, s);
+    let first = multivar_poly_recovery::recover_multivar_poly(u, settings, a);
+    let second = multivar_poly_recovery::recover_multivar_poly(v, settings, b);
+    let whole = multivar_poly_recovery::recover_multivar_poly(t, settings, c);
+    let sum = poly::sum(a, b, settings, s);
     SumOutcomes {
-        first: first,
-        second: second,
-        whole: whole,
-        sum: sum,
+        first,
+        second,
+        whole,
+        sum,
     }
 }
 
-// What two calls said.
-#[derive(Clone, Copy)]
-struct GridOutcomes {
-    small: Outcome,
-    large: Outcome,
-}
-
-// A grid that contains a refused grid is refused: no larger grid makes a 6 go away.
+// A grid that contains a refused grid is refused: no larger grid makes a 6 go away. The larger one has the degree `higher`.
 fn recover_larger(
     small: &[u64],
     large: &[u64],
-    support: &[u64],
-    total: u32,
-    width: u32,
-    degree: u8,
+    settings: &Settings,
     higher: u8,
     a: &mut [u64],
     b: &mut [u64],
-) -> GridOutcomes
-    ensures { Contains width (cube support.now higher) large.now (cube support.now degree) small.now
-        → said_number result.small ≡ 6
-        → CallPasses 65536 true total (fits_width width) support.now (cube support.now higher)
+) -> TwoOutcomes
+    ensures { let s = settings.now in Contains s.bitwidth (cube s.support.now higher) large.now (degrees_of s) small.now
+        → said_number result.first ≡ 6
+        → CallPasses 65536 true s.total (fits_width s.bitwidth) s.support.now (cube s.support.now higher)
         (λ n. (large.now, n) ∷ (b.old, n) ∷ [])
-        → said_number result.large ≡ 6 }
+        → said_number result.second ≡ 6 }
 {
-    let first = multivar_poly_recovery::recover_multivar_poly(
-        small, support, total, width, degree, a,
-    );
-    let second = multivar_poly_recovery::recover_multivar_poly(
-        large, support, total, width, higher, b,
-    );
-    GridOutcomes {
-        small: first,
-        large: second,
-    }
+    let wider = Settings {
+        max_degree: higher,
+        ..*settings
+    };
+    let first = multivar_poly_recovery::recover_multivar_poly(small, settings, a);
+    let second = multivar_poly_recovery::recover_multivar_poly(large, &wider, b);
+    TwoOutcomes { first, second }
 }

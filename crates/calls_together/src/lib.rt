@@ -8,3 +8,19 @@ mod forms;
 mod grids;
 mod moved;
 mod rooms;
+
+use answers::Refusal;
+
+// What two calls said, and what three did.
+#[derive(Clone, Copy)]
+struct TwoOutcomes {
+    first: Result<(), Refusal>,
+    second: Result<(), Refusal>,
+}
+
+#[derive(Clone, Copy)]
+struct ThreeOutcomes {
+    first: Result<(), Refusal>,
+    second: Result<(), Refusal>,
+    third: Result<(), Refusal>,
+}

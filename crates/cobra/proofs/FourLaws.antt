@@ -1,28 +1,16 @@
 -- The call of the four by four solver: what is said and left for each of its ways.
-use mathlib.Core.Path.{◌≡◌, refl, sym, ap, ap₂, ◌∙◌}
-use mathlib.Core.Bool.{Bool, true, false, cond, ◌&&◌}
+use mathlib.Core.Path.{◌≡◌, refl, sym, ap₂, ◌∙◌}
+use mathlib.Core.Bool.{Bool, true, false, cond}
 use mathlib.Core.List.{List}
 use Prim.Native.Nat.{ℕ, zero, suc, ◌+◌, ◌*◌, ◌%◌, ◌^◌, ◌<◌}
 use native.Mathlib.Omega.{arith}
-use borrow.Author.Tests.{eq-eqb}
-use lib.Dec.{eqb}
-use lib.ListN.{length, replicate}
-use Rattle.meaning.specs.Tables.{at, tabulate}
+use lib.ListN.{length}
+use Rattle.meaning.specs.Tables.{at}
 use Rattle.meaning.specs.Sums.{sum}
-use Rattle.meaning.specs.Calls.{left}
-use Rattle.meaning.specs.Elimination.{joined, fixed_number, fixed_answer, solver_answer, solver_cause}
+use Rattle.meaning.specs.Elimination.{joined, fixed_number, fixed_answer}
 use Rattle.meaning.specs.Settings.{fits_width}
-use Rattle.theory.specs.Tables.{length-tabulate}
 use Rattle.two_adic_solver.specs.Solves.{Solves}
 use Rattle.cobra.specs.Systems.{four, square, four_fit, four_number, four_answer}
-
-length-left : (n : ℕ) (f : ℕ → ℕ) → length (left n (tabulate 4 f) (replicate 4 0)) ≡ 4
-length-left zero f = length-tabulate 4 f
-length-left (suc n) f = refl
-
-fixed_length : (w : ℕ) (m : List (List ℕ)) (r : List ℕ) → length (fixed_answer w m r) ≡ 4
-unfolding fixed_answer solver_answer
-fixed_length w m r = length-left (solver_cause w 4 (joined m) r (replicate 4 0)) _
 
 -- a row of the sixteen entries is one of the four rows
 square_row : (w : ℕ) (m r x : List ℕ) → Solves w 4 (joined (square m)) (four 0 r) x
@@ -52,24 +40,12 @@ module _ (w : ℕ) (m r a : List ℕ) where
   pub four_width : fits_width w ≡ false → Told 3 a
   four_width e = let d = decided false (four_fit m r a) e refl in (sym d.0, (sym d.1, λ z. absurd (omega arith)))
 
-  four-length : fits_width w ≡ true → four_fit m r a ≡ false → Told 9 a
+  pub four-length : fits_width w ≡ true → four_fit m r a ≡ false → Told 9 a
   four-length e f = let d = decided true false e f in (sym d.0, (sym d.1, λ z. absurd (omega arith)))
 
-  -- a matrix, a right side and an answer of another length
-  pub four_matrix : fits_width w ≡ true → eqb (length m) 16 ≡ false → Told 9 a
-  four_matrix e f = four-length e (ap (◌&& (eqb (length r) 4 && eqb (length a) 4)) f)
-
-  pub four_right : fits_width w ≡ true → eqb (length m) 16 ≡ true → eqb (length r) 4 ≡ false → Told 9 a
-  four_right e f g = four-length e (ap₂ ◌&&◌ f (ap (◌&& eqb (length a) 4) g))
-
-  pub four-answer : fits_width w ≡ true → eqb (length m) 16 ≡ true → eqb (length r) 4 ≡ true → eqb (length a) 4 ≡ false → Told 9 a
-  four-answer e f g h = four-length e (ap₂ ◌&&◌ f (ap₂ ◌&&◌ g h))
-
-  pub four_solved : fits_width w ≡ true → four_fit m r a ≡ true → length r ≡ 4 → length a ≡ 4 → (n : ℕ) (x out : List ℕ)
+  pub four_solved : fits_width w ≡ true → four_fit m r a ≡ true → length r ≡ 4 → (n : ℕ) (x out : List ℕ)
       → n ≡ fixed_number w (square m) (four 0 r) → x ≡ fixed_answer w (square m) (four 0 r)
-      → (n ≡ 0 → Solves w 4 (joined (square m)) (four 0 r) x) → out ≡ cond (eqb (length x) (length a)) x a → Told n out
-  four_solved e f lr l n x out en ex s eo =
+      → (n ≡ 0 → Solves w 4 (joined (square m)) (four 0 r) x) → out ≡ x → Told n out
+  four_solved e f lr n x out en ex s whole =
       let d = decided true true e f in
-      let same : length x ≡ length a = ap length ex ∙ fixed_length w (square m) (four 0 r) ∙ sym l in
-      let whole : out ≡ x = eo ∙ ap (λ (b : Bool). cond b x a) (eq-eqb _ _ same) in
       (en ∙ sym d.0, (whole ∙ ex ∙ sym d.1, λ z. rw whole (record { row = λ i p. square_row w m r x (s z) i (rw lr at p) })))

@@ -1,4 +1,3 @@
--- What is asked of a key's table (Keys), what is read of its exponents (Measures), and the four by four solver on lent tables (Systems).
+-- What is asked of a key's table (Keys), and the four by four solver on lent tables (Systems).
 pub mod Keys
-pub mod Measures
 pub mod Systems

@@ -10,6 +10,8 @@ ghost use Rattle.demand3.specs.Settings.{CallPasses};
 ghost use Rattle.demand3.specs.Promises.{Judged, Compared, Valued, Summed, Reduced, DatumMoved, ToFalling, ToPowers, Normalised, Decides};
 ghost use Rattle.settings.specs.Forms.{cube_form};
 
+use settings::{Form, Settings};
+
 // 1 at `value` where the box is a normal form, else 0.
 #[unsafe(no_mangle)]
 pub extern "C" fn cobra_box_is_valid(
@@ -26,7 +28,13 @@ pub extern "C" fn cobra_box_is_valid(
         (λ n. (coeffs.now, n) ∷ []))
         width (cube support.now degree) coeffs.now (told result value.new) }
 {
-    answers::deliver_truth(poly::is_valid(coeffs, support, total, width, degree), value)
+    let settings = Settings {
+        support,
+        total,
+        bitwidth: width,
+        max_degree: degree,
+    };
+    answers::deliver_truth(poly::is_valid(coeffs, &settings), value)
 }
 
 // 1 at `value` where two forms are the same, that is, have equal totals, equal widths and equal values at every whole-number point, else 0.
@@ -49,12 +57,25 @@ pub extern "C" fn cobra_box_same(
     ensures compares { Compared (cube_form atotal awidth asupport.now adegree a.now)
         (cube_form btotal bwidth bsupport.now bdegree b.now) (told result value.new) }
 {
-    answers::deliver_truth(
-        sameness::same(
-            a, asupport, atotal, awidth, adegree, b, bsupport, btotal, bwidth, bdegree,
-        ),
-        value,
-    )
+    let first = Form {
+        settings: Settings {
+            support: asupport,
+            total: atotal,
+            bitwidth: awidth,
+            max_degree: adegree,
+        },
+        coeffs: a,
+    };
+    let second = Form {
+        settings: Settings {
+            support: bsupport,
+            total: btotal,
+            bitwidth: bwidth,
+            max_degree: bdegree,
+        },
+        coeffs: b,
+    };
+    answers::deliver_truth(sameness::same(&first, &second), value)
 }
 
 // The value of a box at a point.
@@ -74,10 +95,13 @@ pub extern "C" fn cobra_box_value(
         (λ n. (coeffs.now, n) ∷ (point.now, length support.now) ∷ []))
         width (cube support.now degree) coeffs.now point.now (told result value.new) }
 {
-    answers::deliver(
-        poly::value(coeffs, support, total, width, degree, point),
-        value,
-    )
+    let settings = Settings {
+        support,
+        total,
+        bitwidth: width,
+        max_degree: degree,
+    };
+    answers::deliver(poly::value(coeffs, &settings, point), value)
 }
 
 // The sum of two boxes.
@@ -99,7 +123,13 @@ pub extern "C" fn cobra_box_sum(
         (λ n. (a.now, n) ∷ (b.now, n) ∷ (out.old, n) ∷ []))
         width (cube support.now degree) a.now b.now result out.new }
 {
-    answers::outcome_code(poly::sum(a, b, support, total, width, degree, out))
+    let settings = Settings {
+        support,
+        total,
+        bitwidth: width,
+        max_degree: degree,
+    };
+    answers::outcome_code(poly::sum(a, b, &settings, out))
 }
 
 // Each coefficient of a box modulo its bound, in place.
@@ -117,7 +147,13 @@ pub extern "C" fn cobra_reduce(
         (λ n. (coeffs.old, n) ∷ []))
         width (cube support.now degree) coeffs.old result coeffs.new }
 {
-    answers::outcome_code(poly::reduce(coeffs, support, total, width, degree))
+    let settings = Settings {
+        support,
+        total,
+        bitwidth: width,
+        max_degree: degree,
+    };
+    answers::outcome_code(poly::reduce(coeffs, &settings))
 }
 
 // The form with its datum moved.
@@ -139,7 +175,13 @@ pub extern "C" fn cobra_move_datum(
         (λ n. (coeffs.now, n) ∷ (offsets.now, length support.now) ∷ (out.old, n) ∷ []))
         width (cube support.now degree) coeffs.now offsets.now result out.new }
 {
-    answers::outcome_code(datum::move_datum(coeffs, support, total, width, degree, offsets, out))
+    let settings = Settings {
+        support,
+        total,
+        bitwidth: width,
+        max_degree: degree,
+    };
+    answers::outcome_code(datum::move_datum(coeffs, &settings, offsets, out))
 }
 
 // From powers to falling factorials.
@@ -161,9 +203,13 @@ pub extern "C" fn cobra_to_factorial_basis(
         (λ n. (coeffs.now, n) ∷ (out.old, n) ∷ []))
         width (cube support.now degree) coeffs.now result out.new }
 {
-    answers::outcome_code(basis_transform::to_factorial_basis(
-        coeffs, support, total, width, degree, out,
-    ))
+    let settings = Settings {
+        support,
+        total,
+        bitwidth: width,
+        max_degree: degree,
+    };
+    answers::outcome_code(basis_transform::to_factorial_basis(coeffs, &settings, out))
 }
 
 // From falling factorials to powers.
@@ -185,9 +231,13 @@ pub extern "C" fn cobra_to_monomial_basis(
         (λ n. (coeffs.now, n) ∷ (out.old, n) ∷ []))
         width (cube support.now degree) coeffs.now result out.new }
 {
-    answers::outcome_code(basis_transform::to_monomial_basis(
-        coeffs, support, total, width, degree, out,
-    ))
+    let settings = Settings {
+        support,
+        total,
+        bitwidth: width,
+        max_degree: degree,
+    };
+    answers::outcome_code(basis_transform::to_monomial_basis(coeffs, &settings, out))
 }
 
 // The normal form of a polynomial in powers.
@@ -209,9 +259,13 @@ pub extern "C" fn cobra_normalize_polynomial(
         (λ n. (coeffs.now, n) ∷ (out.old, n) ∷ []))
         width (cube support.now degree) coeffs.now result out.new }
 {
-    answers::outcome_code(poly_normalizer::normalize_polynomial(
-        coeffs, support, total, width, degree, out,
-    ))
+    let settings = Settings {
+        support,
+        total,
+        bitwidth: width,
+        max_degree: degree,
+    };
+    answers::outcome_code(poly_normalizer::normalize_polynomial(coeffs, &settings, out))
 }
 
 // Recovery from the values on a grid.
@@ -232,9 +286,13 @@ pub extern "C" fn cobra_recover_multivar_poly(
         (λ n. (values.now, n) ∷ (out.old, n) ∷ []))
         width (cube support.now degree) values.now result out.new }
 {
-    answers::outcome_code(multivar_poly_recovery::recover_multivar_poly(
-        values, support, total, width, degree, out,
-    ))
+    let settings = Settings {
+        support,
+        total,
+        bitwidth: width,
+        max_degree: degree,
+    };
+    answers::outcome_code(multivar_poly_recovery::recover_multivar_poly(values, &settings, out))
 }
 
 // Singleton powers of each variable alone.

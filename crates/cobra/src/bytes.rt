@@ -9,6 +9,9 @@ ghost use Rattle.weighted_poly_fit.specs.Fits.{Fits};
 ghost use Rattle.byte_calls.specs.Bytes.{decoded};
 ghost use Rattle.byte_calls.specs.Calls.{bytes_recovery_number, bytes_recovery_left, bytes_value_reply, fit_held, fit_bytes_reply, fit_bytes_left};
 
+use byte_calls::ByteSettings;
+use byte_calls::fit::ByteFitSettings;
+
 // Recovery from the values on a grid; 6 where no polynomial of any degree has them.
 #[unsafe(no_mangle)]
 pub extern "C" fn cobra_recover(
@@ -29,7 +32,14 @@ pub extern "C" fn cobra_recover(
         (λ n. (support.now, count * 8) ∷ (values.now, n * 8) ∷ (out.old, n * 8) ∷ []))
         width (cube (decoded support.now) degree) (decoded values.now) result (decoded out.new) }
 {
-    answers::outcome_code(byte_calls::recover(values, support, count, total, width, degree, out))
+    let settings = ByteSettings {
+        support,
+        count,
+        total,
+        bitwidth: width,
+        max_degree: degree,
+    };
+    answers::outcome_code(byte_calls::recover(values, &settings, out))
 }
 
 // The value of a box at a point.
@@ -52,10 +62,14 @@ pub extern "C" fn cobra_value(
         width (cube (decoded support.now) degree) (decoded coeffs.now) (decoded point.now) (told result
         value.new) }
 {
-    answers::deliver(
-        byte_calls::value(coeffs, support, count, total, width, degree, point),
-        value,
-    )
+    let settings = ByteSettings {
+        support,
+        count,
+        total,
+        bitwidth: width,
+        max_degree: degree,
+    };
+    answers::deliver(byte_calls::value(coeffs, &settings, point), value)
 }
 
 // Fits a polynomial to weighted targets; `degree_used` gets the largest total degree among the coefficients that are not 0.
@@ -82,18 +96,16 @@ pub extern "C" fn cobra_fit(
         support.now) grid_degree)
         max_degree (decoded weights.now) (decoded targets.now) result degree_used.new (decoded out.new) }
 {
+    let settings = ByteFitSettings {
+        support,
+        count,
+        total,
+        bitwidth: width,
+        max_degree,
+        grid_degree,
+    };
     answers::deliver(
-        byte_calls::fit::fit(
-            weights,
-            targets,
-            support,
-            count,
-            total,
-            width,
-            max_degree,
-            grid_degree,
-            out,
-        ),
+        byte_calls::fit::fit(weights, targets, &settings, out),
         degree_used,
     )
 }

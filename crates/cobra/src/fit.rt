@@ -5,6 +5,8 @@ ghost use Rattle.meaning.specs.Fit.{fit_of};
 ghost use Rattle.meaning.specs.Replies.{told};
 ghost use Rattle.weighted_poly_fit.specs.Fits.{Called, Fits};
 
+use room::sizes::FitSettings;
+
 // Fits a polynomial to weighted targets; `value` gets degree_used.
 #[unsafe(no_mangle)]
 pub extern "C" fn cobra_recover_weighted_poly(
@@ -26,18 +28,16 @@ pub extern "C" fn cobra_recover_weighted_poly(
     ensures fits { Fits width (cube support.now (min max_degree grid_degree)) (cube support.now grid_degree) max_degree
         weights.now targets.now result value.new out.new }
 {
+    let settings = FitSettings {
+        support,
+        total,
+        bitwidth: width,
+        max_degree,
+        grid_degree,
+    };
     answers::deliver(
         weighted_poly_fit::fit::recover_weighted_poly(
-            weights,
-            targets,
-            support,
-            total,
-            width,
-            max_degree,
-            grid_degree,
-            matrix,
-            right,
-            out,
+            weights, targets, &settings, matrix, right, out,
         ),
         value,
     )

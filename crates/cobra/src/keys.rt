@@ -2,63 +2,39 @@
 ghost use Rattle.std.specs.Prelude.{◌≡◌, cond, leb, ltb, length, set};
 ghost use Rattle.meaning.specs.Leaves.{key_number, key_of, exponents_left, exponent_reply, degree_reply, largest_reply, weight_reply};
 ghost use Rattle.meaning.specs.Replies.{told};
-ghost use Rattle.answers.specs.Said.{said};
+ghost use Rattle.answers.specs.Said.{said_number};
 ghost use Rattle.cobra.specs.Keys.{twenty, keyed};
-ghost use Rattle.cobra.specs.Measures.{measure_reply};
+ghost use Rattle.mono.specs.Keys.{key_said, exponents_or};
 ghost use Rattle.meaning.specs.Settings.{first};
 ghost use Rattle.meaning.specs.Calls.{left};
 
-use answers::Number;
+use answers::Refusal;
 use mono::MonomialKey;
 
-// The key of a table of twenty bytes.
-fn key_of(table: &[u8]) -> MonomialKey
-    requires { length table.now ≡ 20 }
-    ensures { result.exponents ≡ table.now }
+// The key of a table of twenty bytes, where the number of variables or the variable is in its range: 11 where it is not, then 9 for another length.
+fn key_of(table: &[u8], in_range: bool) -> Result<MonomialKey, Refusal>
+    ensures says { key_said result ≡ first (cond in_range 0 11) (twenty table.now) }
+    ensures gives { exponents_or table.now result ≡ table.now }
 {
-    let made = MonomialKey::from_exponents(table, 20);
-    made.key
-}
-
-// Writes a key to a table of twenty bytes.
-fn store(key: MonomialKey, table: &mut [u8])
-    requires { length table.old ≡ 20 }
-    ensures { table.new ≡ key.exponents }
-{
-    key.to_exponents(table, 20);
-}
-
-// What is read of the first exponents of a key: their sum, the largest, the twos in their factorials.
-#[derive(Clone, Copy)]
-enum Measure {
-    Total,
-    Largest,
-    Twos,
-}
-
-fn measured(measure: Measure, key: MonomialKey, num_vars: u8) -> Number
-    ensures { said result ≡ measure_reply measure num_vars key.exponents }
-{
-    match measure {
-        Measure::Total => key.total_degree(num_vars),
-        Measure::Largest => key.max_degree(num_vars),
-        Measure::Twos => key.v2_factorial_weight(num_vars),
+    if !in_range {
+        return Err(Refusal::OutOfRange);
+    }
+    match <[u8; 20]>::try_from(table) {
+        Ok(exponents) => Ok(MonomialKey { exponents }),
+        Err(_) => Err(Refusal::WrongLength),
     }
 }
 
-// A measure of the first num_vars exponents of a table's key.
-fn measure_table(measure: Measure, key: &[u8], num_vars: u8, value: &mut u64) -> u32
-    ensures { told result value.new ≡ keyed (leb num_vars 20) key.now (measure_reply measure num_vars key.now) }
+// Writes a key to a table of twenty bytes. Another length is 9, and the table stays as it was.
+fn store(key: MonomialKey, table: &mut [u8]) -> Result<(), Refusal>
+    ensures says { said_number result ≡ twenty table.old }
+    ensures leaves { table.new ≡ left (twenty table.old) key.exponents table.old }
 {
-    if 20 < num_vars {
-        *value = 0;
-        return 11;
+    if table.len() != MonomialKey::MAX_POLY_VARS {
+        return Err(Refusal::WrongLength);
     }
-    if key.len() != 20 {
-        *value = 0;
-        return 9;
-    }
-    answers::deliver(measured(measure, key_of(key), num_vars), value)
+    table.copy_from_slice(&key.exponents);
+    Ok(())
 }
 
 // The key of the first num_vars exponents is written to `key`, which is left as it was beside a refusal.
@@ -67,18 +43,10 @@ pub extern "C" fn cobra_key_from_exponents(exps: &[u8], num_vars: u8, key: &mut 
     ensures says { result ≡ first (key_number num_vars (length exps.now)) (twenty key.old) }
     ensures leaves { key.new ≡ left (first (key_number num_vars (length exps.now)) (twenty key.old)) (key_of num_vars exps.now) key.old }
 {
-    if 20 < num_vars {
-        return 11;
+    match MonomialKey::from_exponents(exps, num_vars) {
+        Ok(made) => answers::outcome_code(store(made, key)),
+        Err(refusal) => u32::from(refusal),
     }
-    if exps.len() < num_vars as usize {
-        return 11;
-    }
-    if key.len() != 20 {
-        return 9;
-    }
-    let made = MonomialKey::from_exponents(exps, num_vars);
-    store(made.key, key);
-    0
 }
 
 // The first num_vars exponents are written to `out`, whose other entries stay; all of it stays beside a refusal.
@@ -87,16 +55,10 @@ pub extern "C" fn cobra_key_to_exponents(key: &[u8], out: &mut [u8], num_vars: u
     ensures says { result ≡ first (key_number num_vars (length out.old)) (twenty key.now) }
     ensures leaves { out.new ≡ left (first (key_number num_vars (length out.old)) (twenty key.now)) (exponents_left num_vars key.now out.old) out.old }
 {
-    if 20 < num_vars {
-        return 11;
+    match key_of(key, num_vars <= 20 && num_vars as usize <= out.len()) {
+        Ok(whole) => answers::outcome_code(whole.to_exponents(out, num_vars)),
+        Err(refusal) => u32::from(refusal),
     }
-    if out.len() < num_vars as usize {
-        return 11;
-    }
-    if key.len() != 20 {
-        return 9;
-    }
-    answers::outcome_code(key_of(key).to_exponents(out, num_vars))
 }
 
 // The exponent of a variable below 20.
@@ -104,17 +66,8 @@ pub extern "C" fn cobra_key_to_exponents(key: &[u8], out: &mut [u8], num_vars: u
 pub extern "C" fn cobra_key_exponent_at(key: &[u8], var_index: u8, value: &mut u64) -> u32
     ensures { told result value.new ≡ keyed (ltb var_index 20) key.now (exponent_reply var_index key.now) }
 {
-    if 20 <= var_index {
-        *value = 0;
-        return 11;
-    }
-    if key.len() != 20 {
-        *value = 0;
-        return 9;
-    }
-    let read = key_of(key).exponent_at(var_index);
-    let answer = read.answer;
-    answers::deliver(answer, value)
+    let exponent = key_of(key, var_index < 20).and_then(|whole| whole.exponent_at(var_index).0);
+    answers::deliver(exponent.map(u64::from), value)
 }
 
 // One exponent of the key is replaced; the key stays as it was beside a refusal.
@@ -123,15 +76,12 @@ pub extern "C" fn cobra_key_with_exponent(key: &mut [u8], var_index: u8, new_val
     ensures says { result ≡ first (cond (ltb var_index 20) 0 11) (twenty key.old) }
     ensures leaves { key.new ≡ left (first (cond (ltb var_index 20) 0 11) (twenty key.old)) (set key.old var_index new_val) key.old }
 {
-    if 20 <= var_index {
-        return 11;
+    let whole = key_of(key, var_index < 20);
+    let changed = whole.and_then(|whole| whole.with_exponent(var_index, new_val));
+    match changed {
+        Ok(changed) => answers::outcome_code(store(changed, key)),
+        Err(refusal) => u32::from(refusal),
     }
-    if key.len() != 20 {
-        return 9;
-    }
-    let changed = key_of(key).with_exponent(var_index, new_val);
-    store(changed.key, key);
-    0
 }
 
 // The sum of the first num_vars exponents.
@@ -139,7 +89,8 @@ pub extern "C" fn cobra_key_with_exponent(key: &mut [u8], var_index: u8, new_val
 pub extern "C" fn cobra_key_total_degree(key: &[u8], num_vars: u8, value: &mut u64) -> u32
     ensures { told result value.new ≡ keyed (leb num_vars 20) key.now (degree_reply num_vars key.now) }
 {
-    measure_table(Measure::Total, key, num_vars, value)
+    let sum = key_of(key, num_vars <= 20).and_then(|whole| whole.total_degree(num_vars));
+    answers::deliver(sum, value)
 }
 
 // The largest of the first num_vars exponents.
@@ -147,7 +98,8 @@ pub extern "C" fn cobra_key_total_degree(key: &[u8], num_vars: u8, value: &mut u
 pub extern "C" fn cobra_key_max_degree(key: &[u8], num_vars: u8, value: &mut u64) -> u32
     ensures { told result value.new ≡ keyed (leb num_vars 20) key.now (largest_reply num_vars key.now) }
 {
-    measure_table(Measure::Largest, key, num_vars, value)
+    let largest = key_of(key, num_vars <= 20).and_then(|whole| whole.max_degree(num_vars));
+    answers::deliver(largest, value)
 }
 
 // The twos in the factorials of the first num_vars exponents.
@@ -155,5 +107,6 @@ pub extern "C" fn cobra_key_max_degree(key: &[u8], num_vars: u8, value: &mut u64
 pub extern "C" fn cobra_key_v2_factorial_weight(key: &[u8], num_vars: u8, value: &mut u64) -> u32
     ensures { told result value.new ≡ keyed (leb num_vars 20) key.now (weight_reply num_vars key.now) }
 {
-    measure_table(Measure::Twos, key, num_vars, value)
+    let twos = key_of(key, num_vars <= 20).and_then(|whole| whole.v2_factorial_weight(num_vars));
+    answers::deliver(twos, value)
 }

@@ -7,7 +7,6 @@ ghost use Rattle.meaning.specs.Replies.{told};
 ghost use Rattle.math_utils.specs.Precision.{precision, bits_of};
 ghost use Rattle.math_utils.specs.Falling.{Stops};
 
-use math_utils::Precision;
 use math_utils::falling::FallingProduct;
 
 #[unsafe(no_mangle)]
@@ -22,10 +21,7 @@ pub extern "C" fn cobra_twos_in_factorial(k: u32) -> u32
 pub extern "C" fn cobra_precision_bits(weight: u32, width: u32) -> u32
     ensures { result ≡ bits_of (precision weight width) }
 {
-    match math_utils::precision_bits(weight, width) {
-        Precision::Bits(bits) => bits,
-        Precision::Nothing => 0,
-    }
+    math_utils::precision_bits(weight, width).unwrap_or(0)
 }
 
 #[unsafe(no_mangle)]
@@ -61,21 +57,14 @@ pub extern "C" fn cobra_falling_product(
     ensures says { falling_told result value.new factors.new ≡ falling_reply width x n }
     ensures stops { Stops width x n (falling_told result value.new factors.new) }
 {
-    match math_utils::falling::falling_product(x, n, width) {
-        FallingProduct::Product {
-            value: product,
-            factors: taken,
-        } => {
-            *value = product;
-            *factors = taken;
-            0
-        }
-        FallingProduct::Refused(refusal) => {
-            *value = 0;
-            *factors = 0;
-            answers::refusal_code(refusal)
-        }
-    }
+    let answer = math_utils::falling::falling_product(x, n, width);
+    let product = answer.unwrap_or(FallingProduct {
+        value: 0,
+        factors: 0,
+    });
+    *value = product.value;
+    *factors = product.factors;
+    answers::outcome_code(answer.map(|_| ()))
 }
 
 // The table gets the products of 0, 1, 2, .. factors, or is left as it was beside a refusal.

@@ -8,7 +8,8 @@ ghost use Rattle.room.specs.Sizes.{fit_settings, fit_room_told};
 ghost use Rattle.room.specs.FitPromises.{FitCosts};
 
 use room::RecoveryRoom;
-use room::sizes::FitRoom;
+use room::sizes::{FitRoom, FitSettings};
+use settings::Settings;
 
 // The cells of a grid, and the subtractions of its recovery.
 #[unsafe(no_mangle)]
@@ -23,21 +24,19 @@ pub extern "C" fn cobra_recovery_room(
     ensures says { room_told result cells.new subtractions.new ≡ recovery_room_lem total width support.now (cube support.now degree) }
     ensures costs { Costs (length support.now) degree (room_told result cells.new subtractions.new) }
 {
-    match room::recovery_room(support, total, width, degree) {
-        RecoveryRoom::Counts {
-            cells: count,
-            subtractions: made,
-        } => {
-            *cells = count;
-            *subtractions = made;
-            0
-        }
-        RecoveryRoom::Refused(refusal) => {
-            *cells = 0;
-            *subtractions = 0;
-            answers::refusal_code(refusal)
-        }
-    }
+    let answer = room::recovery_room(&Settings {
+        support,
+        total,
+        bitwidth: width,
+        max_degree: degree,
+    });
+    let room = answer.unwrap_or(RecoveryRoom {
+        cells: 0,
+        subtractions: 0,
+    });
+    *cells = room.cells;
+    *subtractions = room.subtractions;
+    answers::outcome_code(answer.map(|_| ()))
 }
 
 // The rows, the columns and the matrix entries of a fit.
@@ -55,22 +54,20 @@ pub extern "C" fn cobra_fit_room(
     ensures says { fit_room_told result rows.new columns.new entries.new ≡ fit_room_lem (fit_settings total width support.now max_degree grid_degree) }
     ensures costs { FitCosts (length support.now) max_degree grid_degree (fit_room_told result rows.new columns.new entries.new) }
 {
-    match room::sizes::fit_room(support, total, width, max_degree, grid_degree) {
-        FitRoom::Counts {
-            rows: points,
-            columns: lists,
-            entries: numbers,
-        } => {
-            *rows = points;
-            *columns = lists;
-            *entries = numbers;
-            0
-        }
-        FitRoom::Refused(refusal) => {
-            *rows = 0;
-            *columns = 0;
-            *entries = 0;
-            answers::refusal_code(refusal)
-        }
-    }
+    let answer = room::sizes::fit_room(&FitSettings {
+        support,
+        total,
+        bitwidth: width,
+        max_degree,
+        grid_degree,
+    });
+    let room = answer.unwrap_or(FitRoom {
+        rows: 0,
+        columns: 0,
+        entries: 0,
+    });
+    *rows = room.rows;
+    *columns = room.columns;
+    *entries = room.entries;
+    answers::outcome_code(answer.map(|_| ()))
 }

@@ -4,6 +4,8 @@ ghost use Rattle.meaning.specs.Elimination.{solver_number, solver_matrix, solver
 ghost use Rattle.two_adic_solver.specs.Solves.{Solves};
 ghost use Rattle.cobra.specs.Systems.{four_number, four_answer};
 
+use answers::Refusal;
+
 // Solves a system by elimination in the lent matrix and right side.
 #[unsafe(no_mangle)]
 pub extern "C" fn cobra_solve_2adic(
@@ -38,16 +40,10 @@ pub extern "C" fn cobra_solve_2adic_fixed(
     ensures solves { result ≡ 0 → Solves width 4 matrix.now right.now answer.new }
 {
     if !settings::width_fits(width) {
-        return 3;
+        return u32::from(Refusal::WidthOutOfRange);
     }
-    if matrix.len() != 16 {
-        return 9;
-    }
-    if right.len() != 4 {
-        return 9;
-    }
-    if answer.len() != 4 {
-        return 9;
+    if matrix.len() != 16 || right.len() != 4 || answer.len() != 4 {
+        return u32::from(Refusal::WrongLength);
     }
     let rows = [
         [matrix[0], matrix[1], matrix[2], matrix[3]],
@@ -57,8 +53,6 @@ pub extern "C" fn cobra_solve_2adic_fixed(
     ];
     let sides = [right[0], right[1], right[2], right[3]];
     let found = two_adic_solver::fixed::solve_2adic_fixed(rows, sides, width);
-    let values = found.answer;
-    let outcome = found.outcome;
-    tables::copy(&values, answer);
-    answers::outcome_code(outcome)
+    answer.copy_from_slice(&found.unwrap_or([0; 4]));
+    answers::outcome_code(found.map(|_| ()))
 }

@@ -1,5 +1,5 @@
 -- The number of a move, test by test, and its steps: a table copied, moved along every variable modulo 2^64 and reduced is the moved form.
-use mathlib.Core.Path.{◌≡◌, refl, sym, ap, ◌∙◌}
+use mathlib.Core.Path.{◌≡◌, refl, ap, ◌∙◌}
 use mathlib.Core.Bool.{Bool, true, false, ◌&&◌, cond}
 use mathlib.Core.List.{List}
 use Prim.Native.Nat.{ℕ, zero, suc, ◌^◌, ◌≤◌, min}
@@ -39,7 +39,7 @@ module _ {total w : ℕ} {support ds c out : List ℕ} (os : List ℕ) (r : Read
   variables_few = (ready_passes r).short
 
   -- the copy is made, each line is moved, and the box is reduced
-  pub moved_of_steps : (t u x : List ℕ) → t ≡ cond (eqb (length c) (length out)) c out
+  pub moved_of_steps : (t u x : List ℕ) → t ≡ c
       → u ≡ cond (eqb (length t) (cells ds)) (shifted (2 ^ 64) ds t os) t
       → x ≡ cond (holds ds (length u)) (box_reduced (bound (min w 64)) ds u) u → x ≡ moved w ds c os
   unfolding shifted
@@ -48,11 +48,8 @@ module _ {total w : ℕ} {support ds c out : List ℕ} (os : List ℕ) (r : Read
       ∙ ap (box_reduced (bound w) ds) along
       ∙ box_reduced-shifted w ds c os 64 (ready_high r)
     where
-      copied : t ≡ c
-      copied = first ∙ rw (eq-eqb (length c) (length out) (r.given_length ∙ sym r.out_length)) refl
-
       along : u ≡ shifted (2 ^ 64) ds c os
-      along = second ∙ rw (copied, eq-eqb (length c) (cells ds) r.given_length) refl
+      along = second ∙ rw (first, eq-eqb (length c) (cells ds) r.given_length) refl
 
       size : length u ≡ cells ds
       size = ap length along ∙ length-tabulate (cells ds) _

@@ -159,11 +159,16 @@ pub walk_each : (lines : ℕ → Line) (ds t : List ℕ)
     → tabulate (length t) (strided lines 1 ds (at t)) ≡ tabulate (length t) (λ n. along_each lines ds (λ xs. at t (cell ds xs)) (digits ds n))
 walk_each lines ds t = tabulate_cong (length t) _ _ (λ n p. strided-one lines ds (at t) n ∙ boxed-eq-along lines ds (at t) n)
 
+-- one line for all variables
+pub walk_same : (line : Line) (ds t : List ℕ)
+    → tabulate (length t) (λ n. along_each (λ l. line) ds (λ xs. at t (cell ds xs)) (digits ds n)) ≡ tabulate (length t) (λ n. along line ds (λ xs. at t (cell ds xs)) (digits ds n))
+walk_same line ds t = tabulate_cong (length t) _ _ (λ n p. along_each_same line ds (λ xs. at t (cell ds xs)) (digits ds n))
+
 -- with one transform for all
 pub walk_along : (line : Line) (ds t : List ℕ)
     → tabulate (length t) (strided (λ l. line) 1 ds (at t)) ≡ tabulate (length t) (λ n. along line ds (λ xs. at t (cell ds xs)) (digits ds n))
 walk_along line ds t =
-    walk_each (λ l. line) ds t ∙ tabulate_cong (length t) _ _ (λ n p. along_each_same line ds (λ xs. at t (cell ds xs)) (digits ds n))
+    walk_each (λ l. line) ds t ∙ walk_same line ds t
 
 -- where the first variable is done, u being the table after it, the others are left
 pub walk_first : (line : Line) → Local line → (d : ℕ) (ds t u : List ℕ) → length t ≡ cells (d ∷ ds) → u ≡ tabulate (length t) (blocked line 1 d (at t))

@@ -1,14 +1,13 @@
 -- Lines that are left as they are, such as those of degree 0 and 1 by both conversions, whose only pass has the difference 0.
-use Rattle.std.specs.Prelude.{◌≡◌, ℕ, zero, suc, ◌+◌, ◌*◌, ◌/◌, ◌%◌, ◌^◌, ◌<◌, ◌≤◌, ◌⊎◌, List, length, refl}
-use Rattle.std.proofs.Common.{sym, ap, ◌∙◌, inl, inr, add_assoc, div-add-mod', mod-lt, mod-eq_of_lt, zero-lt-suc, le_of_suc-le-suc, arith, pow_pos}
+use Rattle.std.specs.Prelude.{◌≡◌, ℕ, zero, suc, ◌+◌, ◌*◌, ◌/◌, ◌%◌, ◌^◌, ◌<◌, ◌≤◌, List, length, refl}
+use Rattle.std.proofs.Common.{sym, ap, ◌∙◌, add_assoc, div-add-mod', mod-lt, mod-eq_of_lt, zero-lt-suc, le_of_suc-le-suc, arith, pow_pos}
 use Rattle.meaning.specs.Tables.{tabulate, at}
+use Rattle.meaning.specs.Stirling.{falling_line, power_line}
 use Rattle.theory.specs.Tables.{eq-tabulate}
 use Rattle.theory.specs.AlongEach.{Line}
 use Rattle.lines.specs.FlatTables.{blocked, in_block}
 use Rattle.theory.specs.Nodes.{passed, rewritten}
 use Rattle.lines.specs.NodeConversions.{to_falling, to_powers, minus-zero, node_line-falling, node_line_power}
-use Rattle.lines.specs.declared.Transform.{Transform}
-use Rattle.lines.specs.Transforms.{line_of}
 
 -- a change of nodes whose first difference is 0
 rewritten-low : (d : ℕ) (δ : ℕ → ℕ → ℕ) (c : ℕ → ℕ) (j : ℕ) → δ 0 0 ≡ 0 → d ≤ 1 → rewritten d δ c j ≡ c j
@@ -18,14 +17,20 @@ rewritten-low (suc zero) δ c zero none low = omega (arith, ap (◌* c 1) none)
 rewritten-low (suc zero) δ c (suc j) none low = refl
 rewritten-low (suc (suc d)) δ c j none low = absurd (omega arith)
 
-low-line : {transform : Transform} (d : ℕ) (c : ℕ → ℕ) (j : ℕ) → (transform ≡ Transform.ToFalling) ⊎ (transform ≡ Transform.ToPowers) → d ≤ 1 → j ≤ d
-    → line_of transform (2 ^ 64) d c j ≡ c j % 2 ^ 64
-low-line d c j (inl e) low h = rw e (sym (node_line-falling (2 ^ 64) d c j h) ∙ ap (◌% 2 ^ 64) (rewritten-low d to_falling c j refl low))
-low-line d c j (inr e) low h =
-    rw e (sym (node_line_power (pow_pos 64) d c j h) ∙ ap (◌% 2 ^ 64) (rewritten-low d (to_powers (2 ^ 64)) c j (minus-zero (2 ^ 64)) low))
+-- lines of degree d are left
+abbrev pub Leaves : Line → ℕ → Type 0
+Leaves line d = (c : ℕ → ℕ) (j : ℕ) → j ≤ d → line d c j ≡ c j % 2 ^ 64
+
+-- by a conversion
+pub falling_low : (d : ℕ) → d ≤ 1 → Leaves (falling_line (2 ^ 64)) d
+falling_low d low c j h = sym (node_line-falling (2 ^ 64) d c j h) ∙ ap (◌% 2 ^ 64) (rewritten-low d to_falling c j refl low)
+
+pub power_low : (d : ℕ) → d ≤ 1 → Leaves (power_line (2 ^ 64)) d
+power_low d low c j h =
+    sym (node_line_power (pow_pos 64) d c j h) ∙ ap (◌% 2 ^ 64) (rewritten-low d (to_powers (2 ^ 64)) c j (minus-zero (2 ^ 64)) low)
 
 -- a table of words is left along a variable whose lines are left
-pub left-blocked : (line : Line) (s d : ℕ) (t : List ℕ) → ((c : ℕ → ℕ) (j : ℕ) → j ≤ d → line d c j ≡ c j % 2 ^ 64) → 0 < s → ((i : ℕ) → at t i < 2 ^ 64)
+pub left-blocked : (line : Line) (s d : ℕ) (t : List ℕ) → Leaves line d → 0 < s → ((i : ℕ) → at t i < 2 ^ 64)
     → t ≡ tabulate (length t) (blocked line s d (at t))
 unfolding blocked
 left-blocked line s d t left pos small =
@@ -37,9 +42,3 @@ left-blocked line s d t left pos small =
   where
     place : (i : ℕ) → i / (s * suc d) * (s * suc d) + i / s % suc d * s + i % s ≡ i
     place i = add_assoc _ _ _ ∙ ap (λ (r : ℕ). i / (s * suc d) * (s * suc d) + r) (sym (in_block s d pos i)) ∙ div-add-mod' i (s * suc d)
-
--- by a conversion
-pub low-left : {transform : Transform} (s d : ℕ) (t : List ℕ) → (transform ≡ Transform.ToFalling) ⊎ (transform ≡ Transform.ToPowers) → d ≤ 1 → 0 < s
-    → ((i : ℕ) → at t i < 2 ^ 64) → t ≡ tabulate (length t) (blocked (line_of transform (2 ^ 64)) s d (at t))
-low-left {transform = transform} s d t which low =
-    left-blocked (line_of transform (2 ^ 64)) s d t (λ c j h. low-line {transform = transform} d c j which low h)

@@ -1,17 +1,17 @@
 -- The lines of a first variable: d + 1 neighbours each, one line after the other. A loop takes a line a turn.
-use Rattle.std.specs.Prelude.{◌≡◌, ℕ, suc, ◌+◌, ◌-◌, ◌*◌, ◌%◌, ◌^◌, ◌<◌, ◌≤◌, ◌⊎◌, List, length, slice_set, refl}
-use Rattle.std.proofs.Common.{sym, ◌∙◌, zero-le, add-one, inl, inr, eq-or-lt_of_le, le_of_suc-le-suc, add-zero, one-mul, mul-one, div-one, le_refl, get_or-set_other}
+use Rattle.std.specs.Prelude.{◌≡◌, ℕ, zero, suc, ◌+◌, ◌-◌, ◌*◌, ◌%◌, ◌^◌, ◌<◌, ◌≤◌, ◌≢◌, ◌⊎◌, List, [], ◌∷◌, length, slice_set, refl}
+use Rattle.std.proofs.Common.{sym, ◌∙◌, zero-le, add-one, inl, inr, eq-or-lt_of_le, le_of_suc-le-suc, add-zero, one-mul, mul-one, div-one, le_refl}
 use Rattle.std.proofs.Math.Path.{ap, fun_ext}
 use Rattle.std.proofs.Math.Nat.{mod-one}
 use native.Mathlib.Omega.{arith}
+use native.Mathlib.Decide.{dec_lt}
 use Rattle.std.proofs.Math.Arith.{digits_mod}
-use Rattle.std.proofs.Math.ListN.{length-set}
 use Rattle.meaning.specs.Tables.{tabulate, at}
 use Rattle.meaning.specs.Differences.{minus, diff, diffs, newton}
 use Rattle.theory.specs.Tables.{Filled, filled_start, filled_step, filled_done}
-use Rattle.lines.specs.FlatTables.{lined, blocked, blocked-eq-lined}
+use Rattle.lines.specs.FlatTables.{Local, lined, blocked, blocked-eq-lined}
+use Rattle.lines.specs.FourWrites.{written, length-written, at-other, at-first, at-second, at-third, at-last}
 use Rattle.theory.specs.AlongEach.{Line}
-use Rattle.lines.specs.FourTerms.{Four}
 
 -- number x of line c
 pub first-at : (line : Line) (d : ℕ) (f : ℕ → ℕ) (c x : ℕ) → x ≤ d → blocked line 1 d f (c * suc d + x) ≡ line d (λ y. f (c * suc d + y)) x
@@ -60,6 +60,22 @@ module _ (line : Line) (d : ℕ) (t₀ : List ℕ) where
     pub neighbours_step : (t' : List ℕ) → Filled (blocked line 1 d (at t₀)) t₀ t' (i + suc d) → Neighbours line d t₀ t' (i + suc d)
     neighbours_step t' all = record { count = suc r.count; place = omega (arith, r.place); filled = all }
 
+    -- a table in which the line is done and the others are as they were
+    pub next_line : (t' : List ℕ) → length t' ≡ length t → ((j : ℕ) → j < i → at t' j ≡ at t j) → ((j : ℕ) → i + suc d ≤ j → at t' j ≡ at t j)
+        → ((x : ℕ) → x ≤ d → at t' (i + x) ≡ line d (λ y. at t (i + y)) x) → Neighbours line d t₀ t' (i + suc d)
+    next_line t' long low high here =
+        neighbours_step t' record {
+          same = long ∙ r.filled.same;
+          below = λ j p. go j p (dec_lt j i);
+          above = λ j p. high j p ∙ r.filled.above j (omega arith);
+        }
+      where
+        go : (j : ℕ) → j < i + suc d → Dec (j < i) → at t' j ≡ blocked line 1 d (at t₀) j
+        go j p (yes l) = low j l ∙ r.filled.below j l
+        go j p (no l) =
+            let e : i + (j - i) ≡ j = omega arith in
+            rw e at (here (j - i) (omega arith) ∙ number (j - i) (omega arith))
+
     -- no further line fits: nothing is left
     pub neighbours_done : i ≤ length t → length t₀ % suc d ≡ 0 → length t < i + suc d → t ≡ tabulate (length t₀) (blocked line 1 d (at t₀))
     neighbours_done within whole h =
@@ -84,107 +100,41 @@ module _ (t₀ t : List ℕ) (i : ℕ) (r : Neighbours newton_line 1 t₀ t i) w
       two : i + 1 + 1 ≡ i + 2
       two = omega arith
 
--- ---- differences of degree 3
+-- ---- lines of degree 3
 
-module _ (t₀ t : List ℕ) (i : ℕ) (r : Neighbours newton_line 3 t₀ t i) where
-  -- the first differences
-  abbrev step : ℕ → ℕ
-  step x = minus (2 ^ 64) (at t (i + suc x)) (at t (i + x))
-
-  pub fours_step : (a b v : ℕ) → i + 3 < length t → a ≡ step 0 → b ≡ minus (2 ^ 64) (step 1) (step 0)
-      → v ≡ minus (2 ^ 64) (minus (2 ^ 64) (step 2) (step 1)) (minus (2 ^ 64) (step 1) (step 0))
-      → Neighbours newton_line 3 t₀ (slice_set (slice_set (slice_set t (i + 1) a) (i + 2) b) (i + 3) v) (i + 4)
-  unfolding newton diffs diff
-  fours_step a b v h e₁ e₂ e₃ =
-      neighbours_step newton_line 3 t₀ t i r _
-      (rw four at (filled_step _ t₀ _ (i + 3) v third (simp length-set h) (e₃ ∙ number newton_line 3 t₀ t i r 3 (omega arith))))
-    where
-      two : i + 1 + 1 ≡ i + 2
-      two = omega arith
-
-      three : i + 2 + 1 ≡ i + 3
-      three = omega arith
-
-      four : i + 3 + 1 ≡ i + 4
-      four = omega arith
-
-      second : Filled (blocked newton_line 1 3 (at t₀)) t₀ (slice_set t (i + 1) a) (i + 2)
-      second =
-          rw two at
-          (filled_step _ t₀ t (i + 1) a (first-kept newton_line 3 t₀ t i r refl) (omega arith) (e₁ ∙ number newton_line 3 t₀ t i r 1 (omega arith)))
-
-      third : Filled (blocked newton_line 1 3 (at t₀)) t₀ (slice_set (slice_set t (i + 1) a) (i + 2) b) (i + 3)
-      third = rw three at (filled_step _ t₀ _ (i + 2) b second (simp length-set (omega arith)) (e₂ ∙ number newton_line 3 t₀ t i r 2 (omega arith)))
-
--- ---- conversions of degree 3
-
-module _ (line : Line) (t₀ t : List ℕ) (i : ℕ) (r : Neighbours line 3 t₀ t i) where
-  pub inner_step : (a b : ℕ) → i + 3 < length t → Four line (λ y. at t (i + y)) a b → Neighbours line 3 t₀ (slice_set (slice_set t (i + 1) a) (i + 2) b) (i + 4)
-  inner_step a b h four = neighbours_step line 3 t₀ t i r after (rw four-places at (filled_keep _ t₀ after (i + 3) third last))
+module _ (line : Line) (local : Local line) (t₀ t : List ℕ) (i : ℕ) (r : Neighbours line 3 t₀ t i) where
+  pub four_step : (four : List ℕ) → ((j : ℕ) → j ≤ 3 → at four j ≡ line 3 (at (at t i ∷ at t (i + 1) ∷ at t (i + 2) ∷ at t (i + 3) ∷ [])) j) → i + 3 < length t
+      → Neighbours line 3 t₀ (written t i (i + 1) (i + 2) (i + 3) (at four 0) (at four 1) (at four 2) (at four 3)) (i + 4)
+  four_step four e h = next_line line 3 t₀ t i r after (length-written t i (i + 1) (i + 2) (i + 3) _ _ _ _) low high here
     where
       after : List ℕ
-      after = slice_set (slice_set t (i + 1) a) (i + 2) b
+      after = written t i (i + 1) (i + 2) (i + 3) (at four 0) (at four 1) (at four 2) (at four 3)
 
-      two : i + 1 + 1 ≡ i + 2
-      two = omega arith
+      same : (x : ℕ) → x ≤ 3 → at (at t i ∷ at t (i + 1) ∷ at t (i + 2) ∷ at t (i + 3) ∷ []) x ≡ at t (i + x)
+      same zero l = ap (at t) (sym (add-zero i))
+      same (suc zero) l = refl
+      same (suc (suc zero)) l = refl
+      same (suc (suc (suc zero))) l = refl
+      same (suc (suc (suc (suc x)))) l = absurd (omega arith)
 
-      three : i + 2 + 1 ≡ i + 3
-      three = omega arith
+      new : (x : ℕ) → x ≤ 3 → at four x ≡ line 3 (λ y. at t (i + y)) x
+      new x l = e x l ∙ local 3 _ (λ y. at t (i + y)) same x l
 
-      four-places : i + 3 + 1 ≡ i + 4
-      four-places = omega arith
+      other : (p : ℕ) → p ≢ i → p ≢ i + 1 → p ≢ i + 2 → p ≢ i + 3 → at after p ≡ at t p
+      other p = at-other t i (i + 1) (i + 2) (i + 3) _ _ _ _ p
 
-      second : Filled (blocked line 1 3 (at t₀)) t₀ (slice_set t (i + 1) a) (i + 2)
-      second =
-          rw two at
-          (filled_step _ t₀ t (i + 1) a (first-kept line 3 t₀ t i r four.first) (omega arith) (sym four.second ∙ number line 3 t₀ t i r 1 (omega arith)))
+      low : (j : ℕ) → j < i → at after j ≡ at t j
+      low j l = other j (omega arith) (omega arith) (omega arith) (omega arith)
 
-      third : Filled (blocked line 1 3 (at t₀)) t₀ after (i + 3)
-      third =
-          rw three at
-          (filled_step _ t₀ (slice_set t (i + 1) a) (i + 2) b second (simp length-set (omega arith)) (sym four.third ∙ number line 3 t₀ t i r 2 (omega arith)))
+      high : (j : ℕ) → i + 4 ≤ j → at after j ≡ at t j
+      high j l = other j (omega arith) (omega arith) (omega arith) (omega arith)
 
-      last : at after (i + 3) ≡ blocked line 1 3 (at t₀) (i + 3)
-      last =
-          get_or-set_other (slice_set t (i + 1) a) (i + 2) (i + 3) b 0 (omega arith)
-          ∙ get_or-set_other t (i + 1) (i + 3) a 0 (omega arith)
-          ∙ sym four.last
-          ∙ number line 3 t₀ t i r 3 (omega arith)
-
--- ---- moves of degree 3
-
-module _ (line : Line) (t₀ t : List ℕ) (i : ℕ) (r : Neighbours line 3 t₀ t i) where
-  pub lower_step : (x y z : ℕ) → i + 3 < length t → x ≡ line 3 (λ n. at t (i + n)) 0 → y ≡ line 3 (λ n. at t (i + n)) 1 → z ≡ line 3 (λ n. at t (i + n)) 2
-      → line 3 (λ n. at t (i + n)) 3 ≡ at t (i + 3) → Neighbours line 3 t₀ (slice_set (slice_set (slice_set t i x) (i + 1) y) (i + 2) z) (i + 4)
-  lower_step x y z h e₀ e₁ e₂ e₃ = neighbours_step line 3 t₀ t i r after (rw four-places at (filled_keep _ t₀ after (i + 3) third last))
-    where
-      after : List ℕ
-      after = slice_set (slice_set (slice_set t i x) (i + 1) y) (i + 2) z
-
-      two : i + 1 + 1 ≡ i + 2
-      two = omega arith
-
-      three : i + 2 + 1 ≡ i + 3
-      three = omega arith
-
-      four-places : i + 3 + 1 ≡ i + 4
-      four-places = omega arith
-
-      first : Filled (blocked line 1 3 (at t₀)) t₀ (slice_set t i x) (i + 1)
-      first = filled_step _ t₀ t i x r.filled (omega arith) (rw (add-zero i) at (e₀ ∙ number line 3 t₀ t i r 0 zero-le))
-
-      second : Filled (blocked line 1 3 (at t₀)) t₀ (slice_set (slice_set t i x) (i + 1) y) (i + 2)
-      second = rw two at (filled_step _ t₀ (slice_set t i x) (i + 1) y first (simp length-set (omega arith)) (e₁ ∙ number line 3 t₀ t i r 1 (omega arith)))
-
-      third : Filled (blocked line 1 3 (at t₀)) t₀ after (i + 3)
-      third =
-          rw three at
-          (filled_step _ t₀ (slice_set (slice_set t i x) (i + 1) y) (i + 2) z second (simp length-set (omega arith)) (e₂ ∙ number line 3 t₀ t i r 2 (omega arith)))
-
-      last : at after (i + 3) ≡ blocked line 1 3 (at t₀) (i + 3)
-      last =
-          get_or-set_other (slice_set (slice_set t i x) (i + 1) y) (i + 2) (i + 3) z 0 (omega arith)
-          ∙ get_or-set_other (slice_set t i x) (i + 1) (i + 3) y 0 (omega arith)
-          ∙ get_or-set_other t i (i + 3) x 0 (omega arith)
-          ∙ sym e₃
-          ∙ number line 3 t₀ t i r 3 (omega arith)
+      here : (x : ℕ) → x ≤ 3 → at after (i + x) ≡ line 3 (λ y. at t (i + y)) x
+      here zero l =
+          ap (at after) (add-zero i)
+          ∙ at-first t i (i + 1) (i + 2) (i + 3) _ _ _ _ (omega arith) (omega arith) (omega arith) (omega arith)
+          ∙ new 0 l
+      here (suc zero) l = at-second t i (i + 1) (i + 2) (i + 3) _ _ _ _ (omega arith) (omega arith) ∙ new 1 l
+      here (suc (suc zero)) l = at-third t i (i + 1) (i + 2) (i + 3) _ _ _ _ (omega arith) ∙ new 2 l
+      here (suc (suc (suc zero))) l = at-last t i (i + 1) (i + 2) (i + 3) _ _ _ _ (omega arith) (omega arith) h ∙ new 3 l
+      here (suc (suc (suc (suc x)))) l = absurd (omega arith)

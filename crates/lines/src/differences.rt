@@ -1,9 +1,12 @@
 // Newton's differences of the lines of a block, in place and modulo 2^64, pass by pass.
-ghost use Rattle.std.specs.Prelude.{◌≡◌, ℕ, suc, ◌+◌, ◌*◌, ◌^◌, ◌<◌, ◌≤◌, true, length};
+ghost use Rattle.std.specs.Prelude.{◌≡◌, ℕ, suc, ◌+◌, ◌*◌, ◌%◌, ◌^◌, ◌<◌, ◌≤◌, true, length};
 ghost use Rattle.meaning.specs.Tables.{tabulate, at};
 ghost use Rattle.meaning.specs.Differences.{newton};
-ghost use Rattle.lines.specs.FlatTables.{lined};
-ghost use Rattle.lines.specs.InPlace.{NewtonPassed, ZeroFrom};
+ghost use Rattle.lines.specs.FlatTables.{lined, blocked};
+ghost use Rattle.lines.specs.InPlace.{NewtonPassed, ZeroFrom, newton_local};
+ghost use Rattle.lines.specs.TransformLaws.{newton_of_mul};
+
+use crate::{FourTransform, LineTransform};
 
 // One pass over a block whose lines have the given stride: from the highest number down to place `low`, each less the one before it on its line.
 fn difference_pass(part: &mut [u64], stride: usize, low: usize)
@@ -12,9 +15,7 @@ fn difference_pass(part: &mut [u64], stride: usize, low: usize)
         → NewtonPassed (2 ^ 64) stride d f (length part.old) p part.old
         → NewtonPassed (2 ^ 64) stride d f (length part.old) (suc p) part.new }
 {
-    let mut i = part.len();
-    while low < i {
-        i -= 1;
+    for i in (low..part.len()).rev() {
         part[i] = arith::wrapping_sub(part[i], part[i - stride]);
     }
 }
@@ -33,9 +34,7 @@ fn difference_pair(part: &mut [u64], stride: usize, low: usize)
         return;
     }
     let end = low + stride;
-    let mut i = part.len();
-    while end < i {
-        i -= 1;
+    for i in (end..part.len()).rev() {
         let before = part[i - stride];
         part[i] = arith::wrapping_sub(
             arith::wrapping_sub(part[i], before),
@@ -55,14 +54,12 @@ fn difference_twice(part: &mut [u64], low: usize)
 {
     let mut number = part[low - 1];
     let mut once = 0;
-    let mut place = low;
-    while place < part.len() {
+    for place in low..part.len() {
         let next = part[place];
         let difference = arith::wrapping_sub(next, number);
         part[place] = arith::wrapping_sub(difference, once);
         number = next;
         once = difference;
-        place += 1;
     }
 }
 
@@ -73,12 +70,10 @@ fn nothing_left(part: &[u64], from: usize) -> bool
     if part.len() < 8 {
         return false;
     }
-    let mut i = from;
-    while i < part.len() {
+    for i in from..part.len() {
         if part[i] != 0 {
             return false;
         }
-        i += 1;
     }
     true
 }
@@ -88,40 +83,11 @@ fn difference_line(part: &mut [u64])
     ensures { (d : ℕ) → length part.old ≡ suc d
         → part.new ≡ tabulate (length part.old) (lined (newton (2 ^ 64)) 1 d (at part.old)) }
 {
-    let mut low = 1;
-    while low < part.len() {
+    for low in (1..part.len()).step_by(2) {
         difference_twice(part, low);
-        low += 2;
-        if nothing_left(part, low - 1) {
+        if nothing_left(part, low + 1) {
             return;
         }
-    }
-}
-
-// The lines of a block of degree 3, each without a loop.
-fn difference_rows(part: &mut [u64], stride: usize)
-    requires { (0 < stride) × (length part.old ≡ stride * 4) }
-    ensures { part.new ≡ tabulate (length part.old) (lined (newton (2 ^ 64)) stride 3 (at part.old)) }
-{
-    let twice = stride + stride;
-    // Never so, as the next one: said for the compiler, which then knows that the distances are not negative.
-    if 0x1000_0000_0000_0000 <= twice {
-        return;
-    }
-    let thrice = twice + stride;
-    if 0x1000_0000_0000_0000 <= thrice {
-        return;
-    }
-    let mut i = 0;
-    while i < stride {
-        let first = arith::wrapping_sub(part[stride + i], part[i]);
-        let second = arith::wrapping_sub(part[twice + i], part[stride + i]);
-        let third = arith::wrapping_sub(part[thrice + i], part[twice + i]);
-        let again = arith::wrapping_sub(second, first);
-        part[stride + i] = first;
-        part[twice + i] = again;
-        part[thrice + i] = arith::wrapping_sub(arith::wrapping_sub(third, second), again);
-        i += 1;
     }
 }
 
@@ -130,6 +96,7 @@ fn difference_short(part: &mut [u64], stride: usize, d: u8)
     requires { (0 < stride) × (length part.old ≡ stride * suc d) }
     ensures { part.new ≡ tabulate (length part.old) (lined (newton (2 ^ 64)) stride d (at part.old)) }
 {
+    // An index by hand: short blocks would pay for `step_by`.
     let mut low = stride;
     while low < part.len() {
         difference_pass(part, stride, low);
@@ -137,37 +104,22 @@ fn difference_short(part: &mut [u64], stride: usize, d: u8)
     }
 }
 
-// The same, two passes at a time, as long as anything is left.
+// The same, two passes at a time, as long as anything is left. It stands by itself, so that short blocks do not pay for long ones.
+#[inline(never)]
 fn difference_long(part: &mut [u64], stride: usize, d: u8)
     requires { (0 < stride) × (length part.old ≡ stride * suc d) }
     ensures { part.new ≡ tabulate (length part.old) (lined (newton (2 ^ 64)) stride d (at part.old)) }
 {
-    let mut low = stride;
-    while low < part.len() {
+    for low in (stride..part.len()).step_by(stride + stride) {
         difference_pair(part, stride, low);
-        low += stride + stride;
-        if nothing_left(part, low - stride) {
+        if nothing_left(part, low + stride) {
             return;
         }
     }
 }
 
-// The same in a function by itself, so that short blocks do not pay for long ones: the compiler moves no function that calls itself into another. That
-// call is never made.
-fn difference_apart(part: &mut [u64], stride: usize, d: u8)
-    requires { (0 < stride) × (length part.old ≡ stride * suc d) × (8 ≤ length part.old) }
-    ensures { part.new ≡ tabulate (length part.old) (lined (newton (2 ^ 64)) stride d (at part.old)) }
-{
-    if part.len() < 8 {
-        difference_apart(part, stride, d);
-        part[0] = 0;
-        return;
-    }
-    difference_long(part, stride, d);
-}
-
 // The same, by what is fastest.
-pub(crate) fn difference_block(part: &mut [u64], stride: usize, d: u8)
+fn difference_block(part: &mut [u64], stride: usize, d: u8)
     requires { (0 < stride) × (length part.old ≡ stride * suc d) }
     ensures { part.new ≡ tabulate (length part.old) (lined (newton (2 ^ 64)) stride d (at part.old)) }
 {
@@ -179,13 +131,67 @@ pub(crate) fn difference_block(part: &mut [u64], stride: usize, d: u8)
         difference_line(part);
         return;
     }
-    if d == 3 {
-        difference_rows(part, stride);
-        return;
-    }
     if d < 7 {
         difference_short(part, stride, d);
         return;
     }
-    difference_apart(part, stride, d);
+    difference_long(part, stride, d);
+}
+
+// The pairs of neighbours of a table, which are the lines of a first variable of degree 1.
+fn difference_twos(table: &mut [u64])
+    requires { length table.old % 2 ≡ 0 }
+    ensures { table.new ≡ tabulate (length table.old) (blocked (newton (2 ^ 64)) 1 1 (at table.old)) }
+{
+    // An index by hand, as in fours.rt.
+    let mut i = 0;
+    while i + 1 < table.len() {
+        table[i + 1] = arith::wrapping_sub(table[i + 1], table[i]);
+        i += 2;
+    }
+}
+
+// Newton's differences at 0.
+#[derive(Clone, Copy)]
+pub struct Differences;
+
+impl FourTransform for Differences {
+    ghost line = { λ x m. newton m };
+
+    const BY_TWOS: bool = false;
+
+    fn four(self, numbers: [u64; 4]) -> [u64; 4] {
+        let first = arith::wrapping_sub(numbers[1], numbers[0]);
+        let second = arith::wrapping_sub(numbers[2], numbers[1]);
+        let third = arith::wrapping_sub(numbers[3], numbers[2]);
+        let twice = arith::wrapping_sub(second, first);
+        [
+            numbers[0],
+            first,
+            twice,
+            arith::wrapping_sub(arith::wrapping_sub(third, second), twice),
+        ]
+    }
+
+    ghost local = { λ x. newton_local };
+
+    ghost of_mul = { λ x. newton_of_mul };
+}
+
+impl LineTransform for Differences {
+    fn leaves_lines(self, _degree: u8) -> bool {
+        false
+    }
+
+    fn neighbours(self, table: &mut [u64], degree: u8) -> bool {
+        if degree != 1 {
+            return false;
+        }
+        difference_twos(table);
+        true
+    }
+
+    fn block(self, part: &mut [u64], stride: usize, degree: u8) {
+        difference_block(part, stride, degree);
+    }
 }

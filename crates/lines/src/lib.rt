@@ -2,24 +2,22 @@
 // along a variable with stride s and degree d the table is cut into blocks of s * (d + 1) numbers, each of s interleaved lines.
 #![tactic(auto)]
 
-ghost use Rattle.std.specs.Prelude.{◌≡◌, suc, ◌*◌, ◌%◌, ◌^◌, ◌<◌, ◌≤◌, true, cond, ◌⊎◌, length, drop, ◌==◌};
+ghost use Rattle.std.specs.Prelude.{◌≡◌, ℕ, suc, ◌*◌, ◌%◌, ◌^◌, ◌<◌, ◌≤◌, cond, length, ◌==◌};
 ghost use Rattle.meaning.specs.Tables.{tabulate, at};
 ghost use Rattle.meaning.specs.Boxes.{cells};
-ghost use Rattle.lines.specs.FlatTables.{lined, blocked, strided};
-ghost use Rattle.lines.specs.Transforms.{line_of, transformed};
+ghost use Rattle.lines.specs.FlatTables.{lined, blocked};
+ghost use Rattle.lines.specs.Transforms.{transformed, transformed_each};
 
 mod differences;
-mod division;
-mod first;
+mod falling;
 mod fours;
+mod powers;
+mod transform;
 
-// What is done to a line: Newton's differences at 0, or the coefficients of powers turned into those of falling factorials, or these turned back.
-#[derive(Clone, Copy)]
-pub enum Transform {
-    Differences,
-    ToFalling,
-    ToPowers,
-}
+pub use differences::Differences;
+pub use falling::ToFalling;
+pub use powers::ToPowers;
+pub use transform::{FourTransform, LineTransform, OfNumber};
 
 // Whether the box of `degrees` has as many cells as the table has numbers. A table has fewer than 2^60 of them, so that a product from there on is not
 // taken.
@@ -27,9 +25,8 @@ pub fn has_box(table: &[u64], degrees: &[u8]) -> bool
     ensures { result ≡ (length table.now == cells degrees.now) }
 {
     let mut size = 1;
-    let mut i = 0;
-    while i < degrees.len() {
-        let count = degrees[i] as usize + 1;
+    for degree in degrees {
+        let count = *degree as usize + 1;
         if 0x0100_0000_0000_0000 <= size && 16 <= count {
             return false;
         }
@@ -37,44 +34,53 @@ pub fn has_box(table: &[u64], degrees: &[u8]) -> bool
         if table.len() < size {
             return false;
         }
-        i += 1;
     }
     table.len() == size
 }
 
-// Every line of a block.
-fn transform_block(transform: Transform, part: &mut [u64], stride: usize, degree: u8)
+// Every line of a block. Lines of degree 3 go without a loop.
+fn transform_block<T: LineTransform>(transform: T, part: &mut [u64], stride: usize, degree: u8)
     requires { (0 < stride) × (length part.old ≡ stride * suc degree) }
-    ensures { part.new ≡ tabulate (length part.old) (lined (line_of transform (2 ^ 64)) stride degree (at part.old)) }
+    ensures { part.new ≡ tabulate (length part.old) (lined (T.line transform (2 ^ 64)) stride degree (at part.old)) }
 {
-    match transform {
-        Transform::Differences => differences::difference_block(part, stride, degree),
-        Transform::ToFalling => division::divide_block(part, stride, degree as usize),
-        Transform::ToPowers => division::undivide_block(part, stride, degree as usize),
+    if degree == 3 {
+        fours::four_rows(transform, part, stride);
+    } else {
+        transform.block(part, stride, degree);
     }
 }
 
-// Whether a transform leaves lines of a degree as they are: a conversion those of degree 0 and 1.
-fn leaves_lines(transform: Transform, degree: u8) -> bool
-    ensures { result ≡ true → (degree ≤ 1) × ((transform ≡ Transform.ToFalling) ⊎ (transform ≡ Transform.ToPowers)) }
+// The lines of a first variable, where there is a way of their own: whether there is.
+fn transform_first<T: LineTransform>(transform: T, table: &mut [u64], degree: u8) -> bool
+    requires { (suc degree ≤ length table.old) × (length table.old % suc degree ≡ 0) }
+    ensures { table.new ≡ cond result (tabulate (length table.old) (blocked (T.line transform (2 ^ 64)) 1 degree (at table.old))) table.old }
 {
-    match transform {
-        Transform::Differences => false,
-        Transform::ToFalling => degree < 2,
-        Transform::ToPowers => degree < 2,
+    if degree == 3 {
+        fours::four_neighbours(transform, table);
+        return true;
     }
+    transform.neighbours(table, degree)
 }
 
 // Every block of a table, along the variable with the given stride and degree. The result is the next variable's stride.
-fn transform_variable(transform: Transform, table: &mut [u64], stride: usize, degree: u8) -> usize
+fn transform_variable<T: LineTransform>(
+    transform: T,
+    table: &mut [u64],
+    stride: usize,
+    degree: u8,
+) -> usize
     requires { (0 < stride) × (stride * suc degree ≤ length table.old) × (length table.old % (stride * suc degree) ≡ 0) }
     ensures stride { result ≡ stride * suc degree }
-    ensures leaves { table.new ≡ tabulate (length table.old) (blocked (line_of transform (2 ^ 64)) stride degree (at table.old)) }
+    ensures leaves { table.new ≡ tabulate (length table.old) (blocked (T.line transform (2 ^ 64)) stride degree (at table.old)) }
 {
     let size = stride * (degree as usize + 1);
-    if leaves_lines(transform, degree) {
+    if transform.leaves_lines(degree) {
         return size;
     }
+    if stride == 1 && transform_first(transform, table, degree) {
+        return size;
+    }
+    // An index by hand, as in fours.rt: short blocks would pay for `step_by`.
     let mut from = 0;
     while size <= table.len() - from {
         let end = from + size;
@@ -84,65 +90,41 @@ fn transform_variable(transform: Transform, table: &mut [u64], stride: usize, de
     size
 }
 
-// Along every variable from number `done` on, the first of which has the given stride.
-fn transform_rest(
-    transform: Transform,
-    table: &mut [u64],
-    degrees: &[u8],
-    done: usize,
-    start: usize,
-)
-    requires { (done ≤ length degrees.now) × (0 < start) × (length table.old ≡ start * cells (drop done degrees.now)) }
-    ensures { table.new ≡ tabulate (length table.old)
-        (strided (λ l. line_of transform (2 ^ 64)) start (drop done degrees.now) (at table.old)) }
+// Along every variable, the first one first, each by the transform that `along` gives for it. A table that has no number for each cell of the box of
+// `degrees` is left as it was.
+fn walk<T: LineTransform, F>(along: F, table: &mut [u64], degrees: &[u8])
+where
+    F: Fn(usize) -> T,
+    requires { F.IsAlwaysCallable along }
+    ensures { (ts : ℕ → T) → ((i : ℕ) (t : T) → F.post along i t → t ≡ ts i) → table.new ≡ cond (length table.old == cells degrees.now)
+        (transformed_each (λ i. T.line (ts i) (2 ^ 64)) degrees.now table.old) table.old }
 {
-    let mut stride = start;
-    let mut variable = done;
-    while variable < degrees.len() {
-        stride = transform_variable(transform, table, stride, degrees[variable]);
-        variable += 1;
+    if !has_box(table, degrees) {
+        return;
     }
-}
-
-// Whether the first variable has short lines, for which there is a way of its own: degree 3, and for differences also 1.
-fn starts_short(transform: Transform, degrees: &[u8]) -> bool
-    ensures { result ≡ true → (0 < length degrees.now)
-        × ((at degrees.now 0 ≡ 3) ⊎ ((at degrees.now 0 ≡ 1) × (transform ≡ Transform.Differences))) }
-{
-    if degrees.len() == 0 {
-        return false;
-    }
-    match transform {
-        Transform::Differences => degrees[0] == 3 || degrees[0] == 1,
-        _ => degrees[0] == 3,
-    }
-}
-
-// A first variable of such a degree.
-fn transform_first(transform: Transform, table: &mut [u64], degree: u8)
-    requires { ((degree ≡ 3) ⊎ ((degree ≡ 1) × (transform ≡ Transform.Differences))) × (length table.old % suc degree ≡ 0) }
-    ensures { table.new ≡ tabulate (length table.old) (blocked (line_of transform (2 ^ 64)) 1 degree (at table.old)) }
-{
-    match transform {
-        Transform::Differences => first::difference_first(table, degree),
-        Transform::ToFalling => fours::falling_neighbours(table),
-        Transform::ToPowers => fours::powers_neighbours(table),
+    let mut stride = 1;
+    for (variable, degree) in degrees.iter().enumerate() {
+        stride = transform_variable(along(variable), table, stride, *degree);
     }
 }
 
 // Transforms the table, which has a number for each cell of the box of `degrees`, along every variable, the first one first. A table of any other
 // length is left as it was. A narrower width is read off the result, since its modulus divides 2^64.
-pub fn transform_all(transform: Transform, table: &mut [u64], degrees: &[u8])
+pub fn transform_all<T: LineTransform>(transform: T, table: &mut [u64], degrees: &[u8])
     ensures { table.new ≡ cond (length table.old == cells degrees.now)
-        (transformed transform (2 ^ 64) degrees.now table.old) table.old }
+        (transformed (T.line transform) (2 ^ 64) degrees.now table.old) table.old }
 {
-    if !has_box(table, degrees) {
-        return;
-    }
-    if starts_short(transform, degrees) {
-        transform_first(transform, table, degrees[0]);
-        transform_rest(transform, table, degrees, 1, degrees[0] as usize + 1);
-        return;
-    }
-    transform_rest(transform, table, degrees, 0, 1);
+    walk(|_variable| transform, table, degrees);
+}
+
+// The same with a transform for each variable, given by its number: 0 where there is none.
+pub fn transform_each<T: OfNumber>(numbers: &[u64], table: &mut [u64], degrees: &[u8])
+    ensures { table.new ≡ cond (length table.old == cells degrees.now)
+        (transformed_each (λ i. T.line (T.given (at numbers.now i)) (2 ^ 64)) degrees.now table.old) table.old }
+{
+    walk(
+        |variable: usize| T::of(numbers.get(variable).copied().unwrap_or(0)),
+        table,
+        degrees,
+    );
 }

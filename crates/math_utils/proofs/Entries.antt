@@ -8,7 +8,7 @@ use Rattle.meaning.specs.Tables.{tabulate, at}
 use Rattle.meaning.specs.Differences.{minus}
 use Rattle.meaning.specs.Stirling.{stirling1, stirling2}
 use Rattle.meaning.specs.Integers.{residue}
-use Rattle.theory.specs.Congruence.{Cong, cong_of_eq, cong_sym, cong_trans, cong_add, cong_add-left, cong_add_right, cong_add_cancel, cong_mul, cong_mul_right, mod-cong, minus-add, minus-lt}
+use Rattle.theory.specs.Congruence.{Cong, cong_of_eq, cong_sym, cong_trans, cong_add, cong_add-left, cong_add_cancel, cong_mul, cong_mul_right, mod-cong, minus-add, minus-lt}
 use Rattle.theory.specs.Integers.{residue-lt}
 use Rattle.theory.specs.Words.{cong_of_pow}
 use Rattle.theory.specs.Tables.{Filled, filled_start, filled_step, filled_done, length-tabulate, at-tabulate-zero}
@@ -75,12 +75,9 @@ pub sum-cut : (w a b : ℕ) → w ≤ 64 → (a + b % 2 ^ 64) % 2 ^ min w 64 ≡
 sum-cut w a b h =
     ap (λ (k : ℕ). (a + b % 2 ^ 64) % 2 ^ k) (min-eq_left h) ∙ (cong_add-left a (cong_of_pow h (mod-cong (2 ^ 64) b))).same
 
--- the factors of the next column
+-- the factor of the next column, of the first kind
 pub factor_same : (i : ℕ) → minus (2 ^ 64) 1 i ≡ (minus (2 ^ 64) 1 i + 0) % 2 ^ 64
 factor_same i = sym (ap (◌% 2 ^ 64) (omega arith) ∙ mod-eq_of_lt (minus-lt 1 i (pow_pos 64)))
-
-pub factor_next : (j : ℕ) → (j + 1) % 2 ^ 64 ≡ (j % 2 ^ 64 + 1) % 2 ^ 64
-factor_next j = sym (cong_add_right 1 (mod-cong (2 ^ 64) j)).same
 
 -- above the diagonal
 number-above : (k : Kind) (w i j : ℕ) → w ≤ 64 → i < j → number k w i j ≡ 0

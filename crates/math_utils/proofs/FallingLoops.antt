@@ -64,8 +64,10 @@ module _ {w x n mask : ℕ} where
       product-zero {k} h z = zero_stays (2 ^ w) x k h (sym product-kept ∙ z)
 
     -- all are taken
-    pub product-all : n ≤ c → c ≡ taken w x n
-    product-all h = taken-eq w x n (taking_all r.taking h)
+    pub product-all : n ≤ c → n ≡ taken w x n
+    product-all h =
+        let e : n ≡ c = omega (arith, r.taking.few) in
+        e ∙ taken-eq w x n (taking_all r.taking h)
 
     pub product_whole : n ≤ c → bit_and p mask ≡ falling x n % 2 ^ w
     product_whole h =

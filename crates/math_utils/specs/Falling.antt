@@ -1,14 +1,15 @@
 -- What the falling product says, and what it promises of its factors.
-use Rattle.std.specs.Prelude.{◌≡◌, ℕ, ◌+◌, ◌%◌, ◌^◌, ◌<◌, ◌≤◌, ◌⊎◌}
+use Rattle.std.specs.Prelude.{◌≡◌, ℕ, ◌+◌, ◌%◌, ◌^◌, ◌<◌, ◌≤◌, ◌⊎◌, Result, Ok, Err}
 use Rattle.meaning.specs.Factorials.{falling, degree_cap_of}
 use Rattle.meaning.specs.Leaves.{FallingReply, falling_told}
+use Rattle.answers.specs.declared.Refusal.{Refusal}
 use Rattle.answers.specs.Said.{code}
 use Rattle.math_utils.specs.declared.falling.FallingProduct.{FallingProduct}
 
 -- the number, the product and the factors of an answer; both are 0 beside a refusal
-abbrev pub falling_said : FallingProduct → FallingReply
-falling_said (FallingProduct.Product p t) = falling_told 0 p t
-falling_said (FallingProduct.Refused r) = falling_told (code r) 0 0
+abbrev pub falling_said : Result FallingProduct Refusal → FallingReply
+falling_said (Ok p) = falling_told 0 p.value p.factors
+falling_said (Err r) = falling_told (code r) 0 0
 
 -- x (x - 1) .. (x - n + 1) modulo 2^w, and how many of its factors were taken
 pub record Stops (w x n : ℕ) (r : FallingReply) : Type 0 where

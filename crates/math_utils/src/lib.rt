@@ -13,70 +13,55 @@ pub mod falling;
 pub mod odd_factors;
 pub mod stirling;
 
-use answers::{Number, Refusal};
+use answers::Refusal;
 
 // The twos in k!, which are k less the ones among its binary digits.
 pub fn twos_in_factorial(k: u32) -> u32
     ensures { result ≡ twos (factorial k) }
 {
-    k - u32::count_ones(k)
+    k - k.count_ones()
 }
 
-// How many bits of a coefficient count where the factorials have `weight` twos.
-#[derive(Clone, Copy)]
-pub enum Precision {
-    Bits(u32),
-    Nothing,
-}
-
-// The width less the weight; nothing where the weight is the width or more.
-pub fn precision_bits(weight: u32, bitwidth: u32) -> Precision
+// How many bits of a coefficient count where the factorials have `weight` twos: the width less the weight; none where the weight is the width or more.
+pub fn precision_bits(weight: u32, bitwidth: u32) -> Option<u32>
     ensures { result ≡ precision weight bitwidth }
 {
     if bitwidth <= weight {
-        Precision::Nothing
+        None
     } else {
-        Precision::Bits(bitwidth - weight)
+        Some(bitwidth - weight)
     }
 }
 
-// The least degree whose factorial has as many twos as the width.
+// The least degree whose factorial has as many twos as the width. 66 has 64.
 fn least_degree(bitwidth: u32) -> u32
     requires { bitwidth ≤ 64 }
     ensures { result ≡ degree_cap_of bitwidth }
 {
-    let mut degree: u32 = 0;
-    while twos_in_factorial(degree) < bitwidth {
-        degree += 1;
-    }
-    degree
+    (0..66)
+        .find(|degree| bitwidth <= twos_in_factorial(*degree))
+        .unwrap_or(66)
 }
 
 // The least degree whose factorial has as many twos as the width: 4 at width 2, 10 at 8, 66 at 64. Widths 2 to 64, else 11.
-pub fn degree_cap(bitwidth: u32) -> Number
+pub fn degree_cap(bitwidth: u32) -> Result<u64, Refusal>
     ensures { said result ≡ cap_reply bitwidth }
 {
     if !settings::width_fits(bitwidth) {
-        return Number::Refused(Refusal::OutOfRange);
+        return Err(Refusal::OutOfRange);
     }
-    Number::Value(least_degree(bitwidth) as u64)
+    Ok(least_degree(bitwidth) as u64)
 }
 
 // The odd part of k! modulo 2^bitwidth. k to 255 and widths 1 to 64, else 11.
-pub fn odd_part_factorial(k: u32, bitwidth: u32) -> Number
+pub fn odd_part_factorial(k: u32, bitwidth: u32) -> Result<u64, Refusal>
     ensures { said result ≡ odd_part_reply k bitwidth }
 {
-    if 255 < k {
-        return Number::Refused(Refusal::OutOfRange);
-    }
-    if bitwidth == 0 {
-        return Number::Refused(Refusal::OutOfRange);
-    }
-    if 64 < bitwidth {
-        return Number::Refused(Refusal::OutOfRange);
+    if 255 < k || bitwidth == 0 || 64 < bitwidth {
+        return Err(Refusal::OutOfRange);
     }
     let table = odd_factors::odd_factorials();
-    Number::Value(table[k as usize] & arith::bitmask(bitwidth))
+    Ok(table[k as usize] & arith::bitmask(bitwidth))
 }
 
 // One step of Newton's: where v is the inverse of x modulo 2^n, the result is it modulo 2^(2 n), for n to 32.
@@ -99,17 +84,11 @@ pub(crate) fn inverse_word(x: u64) -> u64
 }
 
 // The inverse of x modulo 2^bits. Odd x and 1 to 64 bits, else 11.
-pub fn mod_inverse_odd(x: u64, bits: u32) -> Number
+pub fn mod_inverse_odd(x: u64, bits: u32) -> Result<u64, Refusal>
     ensures { said result ≡ inverse_reply x bits }
 {
-    if x % 2 == 0 {
-        return Number::Refused(Refusal::OutOfRange);
+    if x % 2 == 0 || bits == 0 || 64 < bits {
+        return Err(Refusal::OutOfRange);
     }
-    if bits == 0 {
-        return Number::Refused(Refusal::OutOfRange);
-    }
-    if 64 < bits {
-        return Number::Refused(Refusal::OutOfRange);
-    }
-    Number::Value(inverse_word(x) & arith::bitmask(bits))
+    Ok(inverse_word(x) & arith::bitmask(bits))
 }

@@ -7,36 +7,39 @@ ghost use Rattle.theory.specs.Tables.{Filled};
 ghost use Rattle.math_utils.specs.Kinds.{entry, factor, Factors, table, Zeros};
 ghost use Rattle.math_utils.specs.declared.stirling.Kind.{Kind};
 
-use answers::{Outcome, Refusal};
+use answers::Refusal;
 
-// The two kinds of Stirling numbers.
-#[derive(Clone, Copy)]
+// The two kinds of Stirling numbers. Matched below, since closures for the factors would stand in three contracts.
+#[derive(Clone, Copy, Debug, PartialEq, Eq)]
 pub(crate) enum Kind {
     First,
     Second,
 }
 
-// The factor of the entry above, as a word, in column 1 of row i: 1 for the second kind, and 1 - i, which wraps, for the first.
-fn first_factor(kind: Kind, i: u64) -> u64
-    ensures { result ≡ factor kind i 1 }
-{
-    match kind {
-        Kind::First => arith::wrapping_sub(1, i),
-        Kind::Second => 1,
+impl Kind {
+    // The factor of the entry above, as a word, in column 1 of row i: 1 for the second kind, and 1 - i, which wraps, for the first.
+    fn first_factor(self, i: u64) -> u64
+        ensures { result ≡ factor self i 1 }
+    {
+        match self {
+            Kind::First => arith::wrapping_sub(1, i),
+            Kind::Second => 1,
+        }
+    }
+
+    // What it grows by from one column to the next.
+    fn factor_step(self) -> u64
+        ensures { (i j : ℕ) → factor self i (j + 1) ≡ (factor self i j + result) % 2 ^ 64 }
+    {
+        match self {
+            Kind::First => 0,
+            Kind::Second => 1,
+        }
     }
 }
 
-// What it grows by from one column to the next.
-fn factor_step(kind: Kind) -> u64
-    ensures { (i j : ℕ) → factor kind i (j + 1) ≡ (factor kind i j + result) % 2 ^ 64 }
-{
-    match kind {
-        Kind::First => 0,
-        Kind::Second => 1,
-    }
-}
-
-// An entry from the one above and the one left of that.
+// An entry from the one above and the one left of that. That the width is at most 64 stands here and in the two functions below as it is: a struct around
+// one number would be no plainer.
 fn next_entry(left: u64, factor: u64, above: u64, bitwidth: u32) -> u64
     requires { bitwidth ≤ 64 }
     ensures { result ≡ (left + factor * above) % 2 ^ bitwidth }
@@ -45,8 +48,8 @@ fn next_entry(left: u64, factor: u64, above: u64, bitwidth: u32) -> u64
 }
 
 // Row i, which is zero, from the row before it, which begins at `from`, with the factors `first`, `first` + `step`, .. of its columns 1, 2, ... Above the
-// diagonal it stays zero. Two entries a turn, since the compiler would make a vector loop of single ones, which in a short row waits for what was just
-// stored.
+// diagonal it stays zero. An index by hand, two entries a turn, since the compiler would make a vector loop of single ones, which in a short row waits for
+// what was just stored (measured: docs/SPEED.md).
 fn fill_row(
     table: &mut [u64],
     side: usize,
@@ -68,11 +71,11 @@ fn fill_row(
     while j < i {
         let above = table[from + j];
         let after = table[from + j + 1];
-        let second = std::num::wrapping_add_u64(factor, step);
+        let second = factor.wrapping_add(step);
         table[from + side + j] = next_entry(left, factor, above, bitwidth);
         table[from + side + j + 1] = next_entry(above, second, after, bitwidth);
         left = after;
-        factor = std::num::wrapping_add_u64(second, step);
+        factor = second.wrapping_add(step);
         j += 2;
     }
     if j == i {
@@ -87,36 +90,38 @@ fn fill(kind: Kind, table: &mut [u64], side: usize, bitwidth: u32)
 {
     tables::clear(table);
     table[0] = 1;
-    let step = factor_step(kind);
+    let step = kind.factor_step();
     let mut from = 0;
-    let mut i = 1;
-    while i < side {
-        let first = first_factor(kind, i as u64);
+    for i in 1..side {
+        let first = kind.first_factor(i as u64);
         fill_row(table, side, from, i, first, step, bitwidth);
         from += side;
-        i += 1;
     }
 }
 
 // Fills a lent table or refuses it.
-fn build(kind: Kind, max_degree: u8, bitwidth: u32, lent: &mut [u64]) -> Outcome
+fn build(kind: Kind, max_degree: u8, bitwidth: u32, lent: &mut [u64]) -> Result<(), Refusal>
     ensures says { said_number result ≡ stirling_number max_degree bitwidth (length lent.old) }
     ensures leaves { lent.new ≡ stirling_left max_degree bitwidth (table kind max_degree bitwidth) lent.old }
 {
     if !settings::width_fits(bitwidth) {
-        return Outcome::Refused(Refusal::OutOfRange);
+        return Err(Refusal::OutOfRange);
     }
     let side = max_degree as usize + 1;
     if lent.len() != side * side {
-        return Outcome::Refused(Refusal::WrongLength);
+        return Err(Refusal::WrongLength);
     }
     fill(kind, lent, side, bitwidth);
-    Outcome::Accepted
+    Ok(())
 }
 
 // Stirling numbers of the second kind to degree max_degree, modulo 2^bitwidth. Widths 2 to 64, else 11; (max_degree + 1)^2 cells, else 9.
-// A refused table stays as it was.
-pub fn build_stirling_second_kind(max_degree: u8, bitwidth: u32, lent: &mut [u64]) -> Outcome
+// A refused table stays as it was. The three arguments come as C passes them.
+pub fn build_stirling_second_kind(
+    max_degree: u8,
+    bitwidth: u32,
+    lent: &mut [u64],
+) -> Result<(), Refusal>
     ensures says { said_number result ≡ stirling_number max_degree bitwidth (length lent.old) }
     ensures leaves { lent.new ≡ stirling_left max_degree bitwidth (stirling2_table max_degree bitwidth) lent.old }
 {
@@ -124,7 +129,11 @@ pub fn build_stirling_second_kind(max_degree: u8, bitwidth: u32, lent: &mut [u64
 }
 
 // Signed Stirling numbers of the first kind, likewise.
-pub fn build_stirling_first_kind(max_degree: u8, bitwidth: u32, lent: &mut [u64]) -> Outcome
+pub fn build_stirling_first_kind(
+    max_degree: u8,
+    bitwidth: u32,
+    lent: &mut [u64],
+) -> Result<(), Refusal>
     ensures says { said_number result ≡ stirling_number max_degree bitwidth (length lent.old) }
     ensures leaves { lent.new ≡ stirling_left max_degree bitwidth (stirling1_table max_degree bitwidth) lent.old }
 {

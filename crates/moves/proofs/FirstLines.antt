@@ -12,7 +12,7 @@ use Rattle.lines.specs.FlatTables.{lined, blocked}
 use Rattle.lines.specs.Neighbours.{Neighbours, first-at}
 use Rattle.lines.specs.NodeOrders.{Opened, opened_of_table, opens_done}
 use Rattle.moves.specs.NodeLines.{EachLine, Passes, Moves, line_at}
-use Rattle.moves.proofs.MovePasses.{moved_line_local}
+use Rattle.moves.specs.MoveLaws.{moved_line_local}
 
 -- a single line is a block of stride 1
 lined-one : (line : Line) (d : ℕ) (f : ℕ → ℕ) (x : ℕ) → lined line 1 d f x ≡ line d f x

@@ -1,7 +1,8 @@
 -- A line of degree 3 moved by an offset, term by term: pass 2 alters the third coefficient, pass 1 the second and the third, pass 0 the three lower ones, each
 -- by the number above it as it was before the pass. Numbers are compared modulo m, so that it does not matter how a factor is written.
-use Rattle.std.proofs.Common.{◌≡◌, ℕ, suc, ◌+◌, ◌-◌, ◌*◌, ◌%◌, ◌<◌, ◌≤◌, sym, ap, ◌∙◌, arith}
+use Rattle.std.proofs.Common.{◌≡◌, ℕ, zero, suc, ◌+◌, ◌-◌, ◌*◌, ◌%◌, ◌<◌, ◌≤◌, [], ◌∷◌, sym, ap, ◌∙◌, mod-eq_of_lt, arith}
 use native.Mathlib.Nat.{mod-mod}
+use Rattle.meaning.specs.Tables.{at}
 use Rattle.meaning.specs.Differences.{minus}
 use Rattle.theory.specs.Congruence.{Cong, cong_of_eq, cong_refl, cong_sym, cong_trans, cong_add, cong_add_right, cong_add_cancel_cong, cong_mul, mod-cong}
 use Rattle.theory.specs.Congruence.{minus-add, cong_minus_of_add}
@@ -97,3 +98,13 @@ module _ {m : ℕ} (positive : 0 < m) (a : ℕ) (c : ℕ → ℕ) where
 
       twice-is : Cong m twice (now 1 2)
       twice-is = number 1 2 once x₃ a multiple twice (omega arith) (omega arith) once_is (top 2) (cong_refl (a + 1)) (cong_of_mod f) v₃
+
+  -- all four
+  pub four_moved : ((x : ℕ) → c x < m) → {low middle high : ℕ}
+      → (low ≡ moved_line m a 3 c 0) × (middle ≡ moved_line m a 3 c 1) × (high ≡ moved_line m a 3 c 2)
+      → (j : ℕ) → j ≤ 3 → at (low ∷ middle ∷ high ∷ c 3 ∷ []) j ≡ moved_line m a 3 c j
+  four_moved small three zero l = three.0
+  four_moved small three (suc zero) l = three.1
+  four_moved small three (suc (suc zero)) l = three.2
+  four_moved small three (suc (suc (suc zero))) l = sym (moved_last ∙ mod-eq_of_lt (small 3))
+  four_moved small three (suc (suc (suc (suc j)))) l = absurd (omega arith)

@@ -7,17 +7,16 @@ ghost use Rattle.lines.specs.FlatTables.{lined, blocked};
 ghost use Rattle.lines.specs.NodeOrders.{Opened};
 ghost use Rattle.moves.specs.NodeLines.{EachLine, GetsAdded, Passes, Moves};
 
-use crate::fours;
-
-// In every line number `place` gets `factor` times the next number added.
+// In every line number `place` gets `factor` times the next number added. No call of the next function does that: the last line has no number two above.
 fn add_next(part: &mut [u64], degree: usize, place: usize, factor: u64)
     requires { (place < degree) × (degree < length part.old) }
     ensures { EachLine degree (GetsAdded (2 ^ 64) place factor 0) part.old part.new }
 {
     let size = degree + 1;
+    // An index by hand, as in the next one: its step is a line, and `step_by` takes two instructions more a turn.
     let mut i = place;
     while i + 1 < part.len() {
-        part[i] = std::num::wrapping_add_u64(part[i], arith::wrapping_mul(factor, part[i + 1]));
+        part[i] = part[i].wrapping_add(arith::wrapping_mul(factor, part[i + 1]));
         i += size;
     }
 }
@@ -30,13 +29,9 @@ fn add_numbers(part: &mut [u64], degree: usize, place: usize, near: u64, far: u6
     let size = degree + 1;
     let mut i = place;
     while i + 2 < part.len() {
-        part[i] = std::num::wrapping_add_u64(
-            part[i],
-            std::num::wrapping_add_u64(
-                arith::wrapping_mul(near, part[i + 1]),
-                arith::wrapping_mul(far, part[i + 2]),
-            ),
-        );
+        part[i] = part[i].wrapping_add(arith::wrapping_mul(near, part[i + 1]).wrapping_add(
+            arith::wrapping_mul(far, part[i + 2]),
+        ));
         i += size;
     }
 }
@@ -54,16 +49,14 @@ fn move_number_pair(part: &mut [u64], degree: usize, done: usize, offset: u64)
         first,
         arith::wrapping_mul(first, arith::wrapping_sub(first, 1)),
     );
-    let mut near = std::num::wrapping_add_u64(first, first);
-    let mut far = arith::wrapping_mul(first, std::num::wrapping_add_u64(first, 1));
-    let mut place = done + 1;
-    while place + 1 < degree {
+    let mut near = first.wrapping_add(first);
+    let mut far = arith::wrapping_mul(first, first.wrapping_add(1));
+    for place in done + 1..degree - 1 {
         add_numbers(part, degree, place, near, far);
-        place += 1;
-        near = std::num::wrapping_add_u64(near, 2);
-        far = std::num::wrapping_add_u64(far, near);
+        near = near.wrapping_add(2);
+        far = far.wrapping_add(near);
     }
-    add_next(part, degree, place, near);
+    add_next(part, degree, degree - 1, near);
 }
 
 // The number at place i gets `near` times the next number and `far` times the one after that added.
@@ -71,13 +64,9 @@ fn add_number(part: &mut [u64], i: usize, near: u64, far: u64)
     requires { i + 2 < length part.old }
     ensures { GetsAdded (2 ^ 64) i near far part.old part.new }
 {
-    part[i] = std::num::wrapping_add_u64(
-        part[i],
-        std::num::wrapping_add_u64(
-            arith::wrapping_mul(near, part[i + 1]),
-            arith::wrapping_mul(far, part[i + 2]),
-        ),
-    );
+    part[i] = part[i].wrapping_add(arith::wrapping_mul(near, part[i + 1]).wrapping_add(
+        arith::wrapping_mul(far, part[i + 2]),
+    ));
 }
 
 // The passes `done` + 1 and `done` over a single line at once: there a loop for each number would not pay.
@@ -85,7 +74,7 @@ fn move_line_pair(part: &mut [u64], degree: usize, done: usize, offset: u64)
     requires { (suc done < degree) × (length part.old ≡ suc degree) }
     ensures { Passes (2 ^ 64) offset degree (suc (suc done)) done part.old part.new }
 {
-    let end = part.len() - 2;
+    let last = part.len() - 2;
     let first = arith::wrapping_sub(offset, done as u64);
     add_number(
         part,
@@ -93,16 +82,14 @@ fn move_line_pair(part: &mut [u64], degree: usize, done: usize, offset: u64)
         first,
         arith::wrapping_mul(first, arith::wrapping_sub(first, 1)),
     );
-    let mut near = std::num::wrapping_add_u64(first, first);
-    let mut far = arith::wrapping_mul(first, std::num::wrapping_add_u64(first, 1));
-    let mut i = done + 1;
-    while i < end {
+    let mut near = first.wrapping_add(first);
+    let mut far = arith::wrapping_mul(first, first.wrapping_add(1));
+    for i in done + 1..last {
         add_number(part, i, near, far);
-        i += 1;
-        near = std::num::wrapping_add_u64(near, 2);
-        far = std::num::wrapping_add_u64(far, near);
+        near = near.wrapping_add(2);
+        far = far.wrapping_add(near);
     }
-    part[i] = std::num::wrapping_add_u64(part[i], arith::wrapping_mul(near, part[i + 1]));
+    part[last] = part[last].wrapping_add(arith::wrapping_mul(near, part[last + 1]));
 }
 
 // The same over every line, by what is fastest.
@@ -117,7 +104,7 @@ fn move_pair(part: &mut [u64], degree: usize, done: usize, offset: u64)
     }
 }
 
-// The passes below `top`, which is even, over every line, two at once.
+// The passes below `top`, which is even, over every line, two at once. An index by hand: it goes down by two.
 fn move_line_pairs(part: &mut [u64], degree: usize, top: usize, offset: u64)
     requires { (top ≤ degree) × (top % 2 ≡ 0) × (degree < length part.old) }
     ensures { EachLine degree (Passes (2 ^ 64) offset degree top 0) part.old part.new }
@@ -150,6 +137,7 @@ fn move_parts(table: &mut [u64], degree: usize, offset: u64)
 {
     let most = (degree + 1) * 16;
     let mut from = 0;
+    // An index by hand: the last part may be shorter.
     while most < table.len() - from {
         let end = from + most;
         move_lines(&mut table[from..end], degree, offset);
@@ -166,13 +154,10 @@ fn move_line(part: &mut [u64], degree: usize, done: usize, offset: u64)
         → Opened (2 ^ 64) (shift (2 ^ 64) offset) 1 degree f (length part.old) (suc done) part.old
         → Opened (2 ^ 64) (shift (2 ^ 64) offset) 1 degree f (length part.old) done part.new }
 {
-    let end = part.len() - 1;
     let mut factor = arith::wrapping_sub(offset, done as u64);
-    let mut i = done;
-    while i < end {
-        part[i] = std::num::wrapping_add_u64(part[i], arith::wrapping_mul(factor, part[i + 1]));
-        i += 1;
-        factor = std::num::wrapping_add_u64(factor, 1);
+    for i in done..part.len() - 1 {
+        part[i] = part[i].wrapping_add(arith::wrapping_mul(factor, part[i + 1]));
+        factor = factor.wrapping_add(1);
     }
 }
 
@@ -181,9 +166,7 @@ fn move_long(part: &mut [u64], degree: usize, offset: u64)
     requires { length part.old ≡ suc degree }
     ensures { part.new ≡ tabulate (length part.old) (lined (moved_line (2 ^ 64) offset) 1 degree (at part.old)) }
 {
-    let mut done = degree;
-    while 0 < done {
-        done -= 1;
+    for done in (0..degree).rev() {
         move_line(part, degree, done, offset);
     }
 }
@@ -193,10 +176,6 @@ pub(crate) fn move_first(table: &mut [u64], degree: usize, offset: u64)
     requires { (degree < 256) × (degree < length table.old) × (length table.old % suc degree ≡ 0) }
     ensures { table.new ≡ tabulate (length table.old) (blocked (moved_line (2 ^ 64) offset) 1 degree (at table.old)) }
 {
-    if degree == 3 {
-        fours::moved_neighbours(table, offset);
-        return;
-    }
     if 19 < degree && table.len() == degree + 1 {
         move_long(table, degree, offset);
         return;

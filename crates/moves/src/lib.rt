@@ -3,7 +3,6 @@
 #![tactic(auto)]
 
 ghost use Rattle.std.specs.Prelude.{◌≡◌, ◌^◌, cond, length, ◌==◌};
-ghost use Rattle.meaning.specs.Tables.{at};
 ghost use Rattle.meaning.specs.Boxes.{cells};
 ghost use Rattle.theory.specs.Moved.{shifted};
 
@@ -11,32 +10,38 @@ mod first;
 mod fours;
 mod passes;
 
-// The offset of variable i, 0 where there is none.
-fn offset_at(offsets: &[u64], i: usize) -> u64
-    ensures { result ≡ at offsets.now i }
-{
-    if i < offsets.len() {
-        return offsets[i];
+use crate::fours::Move;
+use lines::{LineTransform, OfNumber};
+
+impl LineTransform for Move {
+    // without an offset
+    fn leaves_lines(self, _degree: u8) -> bool {
+        self.offset == 0
     }
-    0
+
+    fn neighbours(self, table: &mut [u64], degree: u8) -> bool {
+        first::move_first(table, degree as usize, self.offset);
+        true
+    }
+
+    fn block(self, part: &mut [u64], stride: usize, degree: u8) {
+        passes::move_block(part, stride, degree as usize, self.offset);
+    }
+}
+
+impl OfNumber for Move {
+    ghost given = { λ a. record { offset = a } };
+
+    fn of(number: u64) -> Move {
+        Move { offset: number }
+    }
 }
 
 // Moves the coefficients of falling factorials in the table, one for each cell of the box of `degrees`, along every variable: they become those of the
 // polynomial with each variable replaced by itself plus its offset, 0 where there is none, modulo 2^64. A table of any other length is left as it was.
-// The loops are those of the transforms, with an offset for each variable.
 pub fn move_all(table: &mut [u64], degrees: &[u8], offsets: &[u64])
     ensures { table.new ≡ cond (length table.old == cells degrees.now)
         (shifted (2 ^ 64) degrees.now table.old offsets.now) table.old }
 {
-    let whole = lines::has_box(table, degrees);
-    if !whole {
-        return;
-    }
-    let mut stride = 1;
-    let mut next = 0;
-    while next < degrees.len() {
-        let offset = offset_at(offsets, next);
-        stride = passes::move_variable(table, stride, degrees[next], offset);
-        next += 1;
-    }
+    lines::transform_each::<Move>(offsets, table, degrees);
 }

@@ -9,21 +9,14 @@ ghost use Rattle.lines.specs.FlatTables.{lined, blocked};
 ghost use Rattle.lines.specs.NodeOrders.{Opened};
 ghost use Rattle.moves.specs.NodeRows.{Added};
 
-use crate::{first, fours};
-
-// Each of the `stride` numbers from place `from` on gets `factor` times the number one stride above it added.
+// Each of the `stride` numbers from place `from` on gets `factor` times the number one stride above it added. No call of the next function does that: the last
+// row has no row two above it.
 fn add_row(part: &mut [u64], stride: usize, from: usize, factor: u64)
     requires { from + stride + stride ≤ length part.old }
     ensures { Added (2 ^ 64) stride from factor 0 part.old part.new (from + stride) }
 {
-    let end = from + stride;
-    let mut i = from;
-    while i < end {
-        part[i] = std::num::wrapping_add_u64(
-            part[i],
-            arith::wrapping_mul(factor, part[i + stride]),
-        );
-        i += 1;
+    for i in from..from + stride {
+        part[i] = part[i].wrapping_add(arith::wrapping_mul(factor, part[i + stride]));
     }
 }
 
@@ -37,17 +30,10 @@ fn add_rows(part: &mut [u64], stride: usize, from: usize, near: u64, far: u64)
     if 0x1000_0000_0000_0000 <= twice {
         return;
     }
-    let end = from + stride;
-    let mut i = from;
-    while i < end {
-        part[i] = std::num::wrapping_add_u64(
-            part[i],
-            std::num::wrapping_add_u64(
-                arith::wrapping_mul(near, part[i + stride]),
-                arith::wrapping_mul(far, part[i + twice]),
-            ),
-        );
-        i += 1;
+    for i in from..from + stride {
+        part[i] = part[i].wrapping_add(arith::wrapping_mul(near, part[i + stride]).wrapping_add(
+            arith::wrapping_mul(far, part[i + twice]),
+        ));
     }
 }
 
@@ -69,18 +55,19 @@ fn move_row_pair(part: &mut [u64], stride: usize, degree: usize, done: usize, of
         arith::wrapping_mul(first, arith::wrapping_sub(first, 1)),
     );
     from += stride;
-    let mut near = std::num::wrapping_add_u64(first, first);
-    let mut far = arith::wrapping_mul(first, std::num::wrapping_add_u64(first, 1));
+    let mut near = first.wrapping_add(first);
+    let mut far = arith::wrapping_mul(first, first.wrapping_add(1));
+    // An index by hand: it is the place of a row, and that of the last one is needed.
     while from < end {
         add_rows(part, stride, from, near, far);
         from += stride;
-        near = std::num::wrapping_add_u64(near, 2);
-        far = std::num::wrapping_add_u64(far, near);
+        near = near.wrapping_add(2);
+        far = far.wrapping_add(near);
     }
     add_row(part, stride, from, near);
 }
 
-// The passes below `top`, which is even, over a block, two at once.
+// The passes below `top`, which is even, over a block, two at once. An index by hand: it goes down by two.
 fn move_pairs(part: &mut [u64], stride: usize, degree: usize, top: usize, offset: u64)
     requires { (0 < stride) × (top ≤ degree) × (top % 2 ≡ 0) × (length part.old ≡ stride * suc degree) }
     ensures { (f : ℕ → ℕ)
@@ -113,47 +100,15 @@ fn move_passes(part: &mut [u64], stride: usize, degree: usize, offset: u64)
     move_pairs(part, stride, degree, degree, offset);
 }
 
-// All passes over a block, by what is fastest, in a function that the compiler does not move into its caller: it calls itself where the stride is 0, which it
-// never is.
+// The same, by itself: moved into the loop over the blocks it takes up to a tenth longer.
+#[inline(never)]
 pub(crate) fn move_block(part: &mut [u64], stride: usize, degree: usize, offset: u64)
     requires { (0 < stride) × (length part.old ≡ stride * suc degree) }
     ensures { part.new ≡ tabulate (length part.old) (lined (moved_line (2 ^ 64) offset) stride degree (at part.old)) }
 {
-    if stride == 0 {
-        move_block(part, stride, degree, offset);
-        part[0] = 0;
-        return;
-    }
     // Never so: said for the compiler, which then knows that a stride is not negative.
     if 0x1000_0000_0000_0000 <= stride {
         return;
     }
-    if degree == 3 {
-        fours::moved_rows(part, stride, offset);
-        return;
-    }
     move_passes(part, stride, degree, offset);
-}
-
-// Every block of a table, along the variable with the given stride and degree; a variable without an offset is left. The result is the next variable's stride.
-pub(crate) fn move_variable(table: &mut [u64], stride: usize, degree: u8, offset: u64) -> usize
-    requires { (0 < stride) × (stride * suc degree ≤ length table.old) × (length table.old % (stride * suc degree) ≡ 0) }
-    ensures stride { result ≡ stride * suc degree }
-    ensures leaves { table.new ≡ tabulate (length table.old) (blocked (moved_line (2 ^ 64) offset) stride degree (at table.old)) }
-{
-    let size = stride * (degree as usize + 1);
-    if offset == 0 {
-        return size;
-    }
-    if stride == 1 {
-        first::move_first(table, degree as usize, offset);
-        return size;
-    }
-    let mut from = 0;
-    while size <= table.len() - from {
-        let end = from + size;
-        move_block(&mut table[from..end], stride, degree as usize, offset);
-        from = end;
-    }
-    size
 }

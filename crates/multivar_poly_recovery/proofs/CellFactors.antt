@@ -3,7 +3,7 @@
 use Rattle.std.proofs.Common.{◌≡◌, ℕ, suc, ◌+◌, ◌-◌, ◌*◌, ◌/◌, ◌%◌, ◌^◌, ◌<◌, ◌≤◌, min, eqb, List, [], ◌∷◌, ◌++◌, sym, ap, ◌∙◌, append_assoc, mod-lt, mul_assoc, mul_comm, one-mul, lt_of_not-le, arith, pow_pos}
 use native.Mathlib.Nat.{mod-one, mul-mul-mul_comm}
 use native.Mathlib.Decide.{dec_le}
-use Rattle.meaning.specs.Factorials.{factorial, twos, odd_part}
+use Rattle.meaning.specs.Factorials.{factorial, odd_part}
 use Rattle.meaning.specs.Boxes.{cells, digits}
 use Rattle.meaning.specs.Values.{weight, odd_factor}
 use Rattle.meaning.specs.Inverses.{inverse}
@@ -13,7 +13,6 @@ use Rattle.theory.specs.Binomials.{factorial_pos}
 use Rattle.theory.specs.Twos.{odd_part-odd, odd-mul}
 use Rattle.theory.specs.Inverses.{inverse_serves, inverse_unique, inverse-cut}
 use Rattle.theory.specs.Widths.{odd_factor-odd}
-use Rattle.theory.specs.LastVariable.{weight-append}
 use Rattle.theory.specs.LastVariable.{cells-snoc, digits-snoc}
 
 -- ---- the last variable
@@ -28,10 +27,6 @@ pub digits_last : (ds : List ℕ) (d e r : ℕ) (hs : List ℕ) → e ≤ d → 
 digits_last ds d e r hs h l = ap (◌++ hs) (digits-snoc ds d e r h l) ∙ append_assoc (digits ds r) (e ∷ []) hs
 
 -- ---- one exponent more
-
-pub weight_more : (w e : ℕ) (hs : List ℕ) → min (min (weight hs) w + twos (factorial e)) w ≡ min (weight (e ∷ hs)) w
-unfolding weight
-weight_more w e hs = omega arith
 
 -- the inverse of a product of odd numbers is the product of the inverses
 pub inverse-mul : (x y : ℕ) → x % 2 ≡ 1 → y % 2 ≡ 1 → (inverse y 64 * inverse x 64) % 2 ^ 64 ≡ inverse (x * y) 64
@@ -56,9 +51,6 @@ unfolding odd_factor
 odd_factor-append [] hs = sym (one-mul (odd_factor hs))
 odd_factor-append (e ∷ es) hs =
     ap (odd_part (factorial e) *◌) (odd_factor-append es hs) ∙ sym (mul_assoc (odd_part (factorial e)) (odd_factor es) (odd_factor hs))
-
-pub weight_parts : (w : ℕ) (es hs : List ℕ) → min (min (weight hs) w + min (weight es) w) w ≡ min (weight (es ++ hs)) w
-weight_parts w es hs = omega (arith, weight-append es hs)
 
 pub inverse_parts : (es hs : List ℕ) → (inverse (odd_factor hs) 64 * inverse (odd_factor es) 64) % 2 ^ 64 ≡ inverse (odd_factor (es ++ hs)) 64
 inverse_parts es hs =

@@ -8,13 +8,13 @@ use Rattle.meaning.specs.Factorials.{twos}
 use Rattle.theory.specs.Words.{low_bits}
 use Rattle.theory.specs.Twos.{twos_eq, trailing_eq-twos}
 use Rattle.box_rows.specs.Rows.{mask-less}
-use Rattle.multivar_poly_recovery.specs.declared.extraction.Cell.{Cell}
+use Rattle.std.specs.Prelude.{Some, None}
 use Rattle.multivar_poly_recovery.specs.Extracted.{Mask, cell_of}
 
-coefficient-eq : (b : Bool) (n v : ℕ) → b ≡ true → n ≡ v → Cell.Coefficient n ≡ cell_of b v
-coefficient-eq b n v e f = ap Cell.Coefficient f ∙ sym (ap (λ (x : Bool). cell_of x v) e)
+coefficient-eq : (b : Bool) (n v : ℕ) → b ≡ true → n ≡ v → Some n ≡ cell_of b v
+coefficient-eq b n v e f = ap Some f ∙ sym (ap (λ (x : Bool). cell_of x v) e)
 
-refused-eq : (b : Bool) (v : ℕ) → b ≡ false → Cell.Refused ≡ cell_of b v
+refused-eq : (b : Bool) (v : ℕ) → b ≡ false → None ≡ cell_of b v
 refused-eq b v e = sym (ap (λ (x : Bool). cell_of x v) e)
 
 module _ (x w mask : ℕ) (small : w ≤ 64) (e : mask ≡ 2 ^ min w 64 - 1) where
@@ -39,10 +39,10 @@ module _ (x w mask : ℕ) (small : w ≤ 64) (e : mask ≡ 2 ^ min w 64 - 1) whe
           let a : ℕ = x % 2 ^ w / 2 ^ q * v in
           sym (ap (λ (k : ℕ). a % 2 ^ k) z ∙ mod-one a)
 
-      pub heavy_zero : bit_and x mask ≡ 0 → Cell.Coefficient 0 ≡ cell_of (eqb (x % 2 ^ w % 2 ^ min q w) 0) ((x % 2 ^ w / 2 ^ q * v) % 2 ^ (w - q))
+      pub heavy_zero : bit_and x mask ≡ 0 → Some 0 ≡ cell_of (eqb (x % 2 ^ w % 2 ^ min q w) 0) ((x % 2 ^ w / 2 ^ q * v) % 2 ^ (w - q))
       heavy_zero z = coefficient-eq _ 0 _ (eq-eqb _ 0 (all ∙ sym kept ∙ z)) nothing
 
-      pub heavy_refused : (bit_and x mask ≡ 0 → ⊥) → Cell.Refused ≡ cell_of (eqb (x % 2 ^ w % 2 ^ min q w) 0) ((x % 2 ^ w / 2 ^ q * v) % 2 ^ (w - q))
+      pub heavy_refused : (bit_and x mask ≡ 0 → ⊥) → None ≡ cell_of (eqb (x % 2 ^ w % 2 ^ min q w) 0) ((x % 2 ^ w / 2 ^ q * v) % 2 ^ (w - q))
       heavy_refused z = refused-eq _ _ (ne_eqb _ 0 (λ k. z (kept ∙ sym all ∙ k)))
 
     -- a lower weight: 2^q divides where shifting right and left gives the number again
@@ -62,12 +62,12 @@ module _ (x w mask : ℕ) (small : w ≤ 64) (e : mask ≡ 2 ^ min w 64 - 1) whe
       -- the shift s is q
       module _ (s : ℕ) (shift : s ≡ q) where
         pub light_refused : ((bit_and x mask / 2 ^ s * 2 ^ s) % 2 ^ 64 ≡ bit_and x mask → ⊥)
-            → Cell.Refused ≡ cell_of (eqb (x % 2 ^ w % 2 ^ min q w) 0) ((x % 2 ^ w / 2 ^ q * v) % 2 ^ (w - q))
+            → None ≡ cell_of (eqb (x % 2 ^ w % 2 ^ min q w) 0) ((x % 2 ^ w / 2 ^ q * v) % 2 ^ (w - q))
         light_refused z = refused-eq _ _ (ne_eqb (x % 2 ^ w % 2 ^ min q w) 0 (λ k. z (rw shift (omega (arith, again, low, k)))))
 
         pub light_passes : (y ones : ℕ) → (bit_and x mask / 2 ^ s * 2 ^ s) % 2 ^ 64 ≡ bit_and x mask → y ≡ (bit_and x mask / 2 ^ s * v) % 2 ^ 64
             → ones ≡ 2 ^ (w - q) - 1
-            → Cell.Coefficient (bit_and y ones) ≡ cell_of (eqb (x % 2 ^ w % 2 ^ min q w) 0) ((x % 2 ^ w / 2 ^ q * v) % 2 ^ (w - q))
+            → Some (bit_and y ones) ≡ cell_of (eqb (x % 2 ^ w % 2 ^ min q w) 0) ((x % 2 ^ w / 2 ^ q * v) % 2 ^ (w - q))
         light_passes y ones z f o =
             let none : x % 2 ^ w % 2 ^ min q w ≡ 0 = omega (arith, again, low, rw shift at z) in
             coefficient-eq _ _ _ (eq-eqb _ 0 none)

@@ -1,5 +1,7 @@
 -- The inverses of the cells of a row, from exponent to exponent of a variable, and from variable to variable.
-use Rattle.std.proofs.Common.{◌≡◌, ℕ, zero, suc, ◌+◌, ◌*◌, ◌%◌, ◌^◌, ◌<◌, ◌≤◌, Bool, true, false, ◌&&◌, ltb, List, [], ◌∷◌, ◌++◌, length, take, drop, set, sym, refl, ap, ◌∙◌, true≢false, le_refl, le_of_suc-le-suc, not-suc-le-zero, add-zero, add_assoc, mul-le-mul_right, mul_comm, mul-one, add-one, arith, length-set, drop_of_length-le, drop-cons, take-suc, ltb-true, le-ltb, lt-ltb}
+use Rattle.std.proofs.Common.{◌≡◌, ℕ, zero, suc, ◌+◌, ◌*◌, ◌%◌, ◌^◌, ◌<◌, ◌≤◌, Bool, true, false, ◌&&◌, ltb, List, [], ◌∷◌, ◌++◌, length, take, set, sym, refl, ap, ◌∙◌, true≢false, le_refl, le_of_suc-le-suc, not-suc-le-zero, add-zero, add_assoc, mul-le-mul_right, mul_comm, mul-one, add-one, arith, length-set, take-suc, ltb-true}
+use Rattle.std.specs.Prelude.{nat_lt}
+use Rattle.std.specs.List.{list_all}
 use lib.Seq.{take-length}
 use lib.Pow.{pow-lt}
 use Rattle.meaning.specs.Tables.{at}
@@ -14,7 +16,7 @@ use Rattle.theory.specs.Tables.{Filled, filled_step}
 use Rattle.theory.specs.LastVariable.{cells-snoc}
 use Rattle.multivar_poly_recovery.proofs.CellFactors.{inverse_parts}
 use Rattle.box_rows.specs.Layouts.{cell_number_of, at_exponent, Adding, adding_step}
-use Rattle.multivar_poly_recovery.specs.Extracted.{Inverses, Reaching, unit_at, below16}
+use Rattle.multivar_poly_recovery.specs.Extracted.{Inverses, Reaching, unit_at}
 
 -- the inverse of a cell with the given exponents
 abbrev pub unit : List ℕ → ℕ
@@ -146,26 +148,11 @@ module _ (ds m₀ m : List ℕ) (size i : ℕ) (r : Laying ds m₀ m size i) whe
 
 -- ---- degrees to 15
 
-module _ (ds : List ℕ) (i : ℕ) where
-  module _ (h : i < length ds) where
-    here : below16 (drop i ds) ≡ (ltb (at ds i) 16 && below16 (drop (suc i) ds))
-    here = ap below16 (drop-cons ds i 0 h)
-
-    pub below_fails : 16 ≤ at ds i → below16 (drop i ds) ≡ false
-    below_fails l = here ∙ ap (◌&& below16 (drop (suc i) ds)) (le-ltb (at ds i) 16 l)
-
-    pub below_next : at ds i < 16 → below16 (drop i ds) ≡ below16 (drop (i + 1) ds)
-    below_next l =
-        here ∙ ap (◌&& below16 (drop (suc i) ds)) (lt-ltb (at ds i) 16 l) ∙ ap (λ (n : ℕ). below16 (drop n ds)) (sym (add-one i))
-
-  pub below_end : length ds ≤ i → below16 (drop i ds) ≡ true
-  below_end h = ap below16 (drop_of_length-le ds h)
-
-pub reaching_16 : (ds : List ℕ) → below16 ds ≡ true → Reaching ds 16
+pub reaching_16 : (ds : List ℕ) → list_all (λ d. nat_lt d 16) ds ≡ true → Reaching ds 16
 reaching_16 [] e = λ i h. absurd (not-suc-le-zero h)
 reaching_16 (d ∷ ds) e = go (ltb d 16) refl e (reaching_16 ds)
   where
-    go : (b : Bool) → ltb d 16 ≡ b → (b && below16 ds) ≡ true → (below16 ds ≡ true → Reaching ds 16) → Reaching (d ∷ ds) 16
+    go : (b : Bool) → ltb d 16 ≡ b → (b && list_all (λ d. nat_lt d 16) ds) ≡ true → (list_all (λ d. nat_lt d 16) ds ≡ true → Reaching ds 16) → Reaching (d ∷ ds) 16
     go true l e rest zero h = ltb-true d 16 l
     go true l e rest (suc i) h = rest e i (le_of_suc-le-suc h)
     go false l e rest i h = absurd (true≢false (sym e))

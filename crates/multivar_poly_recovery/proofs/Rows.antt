@@ -9,17 +9,17 @@ use Rattle.meaning.specs.Values.{weight, odd_factor, bound}
 use Rattle.theory.specs.LastVariable.{weight-append}
 use Rattle.multivar_poly_recovery.proofs.CellFactors.{inverse_parts, inverse_more, divides-cut, coefficient-cut}
 use Rattle.multivar_poly_recovery.specs.Tested.{Testing, testing_start, testing_step, testing_done, tested_fails}
-use Rattle.box_rows.specs.Rows.{row_mask}
+use Rattle.std.specs.Prelude.{Option, Some, None}
+use Rattle.box_rows.specs.Rows.{Laid, row_mask}
 use Rattle.box_rows.specs.Lines.{LineBits}
-use Rattle.multivar_poly_recovery.specs.declared.extraction.Cell.{Cell}
-use Rattle.multivar_poly_recovery.specs.Extracted.{cell_of, test, number, Extracted, Row, Inverses}
+use Rattle.multivar_poly_recovery.specs.Extracted.{cell_of, test, number, Extracted, Inverses, Inverted}
 
 -- what a cell's answer says of its test and its coefficient
-cell-passes : (b : Bool) (v c : ℕ) → cell_of b v ≡ Cell.Coefficient c → T b × (c ≡ v)
+cell-passes : (b : Bool) (v c : ℕ) → cell_of b v ≡ Some c → T b × (c ≡ v)
 cell-passes true v c e = (tt, cc)
 cell-passes false v c e = let z : ◌≡◌ {A = ℕ} 0 1 = cc in omega arith
 
-cell-refused : (b : Bool) (v : ℕ) → cell_of b v ≡ Cell.Refused → T b → ⊥
+cell-refused : (b : Bool) (v : ℕ) → cell_of b v ≡ None → T b → ⊥
 cell-refused true v e t = let z : ◌≡◌ {A = ℕ} 0 1 = cc in omega arith
 cell-refused false v e t = t
 
@@ -30,16 +30,16 @@ pub record Handed (w left v : ℕ) (hs : List ℕ) : Type 0 where
   pub bits : left ≡ w - weight hs
   pub unit : v ≡ inverse (odd_factor hs) 64
 
-pub record OfRow (w left v : ℕ) (masks units t₀ ds hs : List ℕ) : Type 0 where
-  pub row : Row ds masks units
-  pub long : length t₀ ≡ cells ds
+-- the box is that of the row
+pub record OfRow (w left v : ℕ) (row ds hs : List ℕ) : Type 0 where
+  pub one : ds ≡ row
   pub handed : Handed w left v hs
 
-pub record OfLine (w left v : ℕ) (inverses t₀ ds hs : List ℕ) : Type 0 where
+-- the box is a line
+pub record OfLine (w left v : ℕ) (t₀ ds hs : List ℕ) : Type 0 where
   pub degree : ℕ
   pub one : ds ≡ degree ∷ []
   pub long : length t₀ ≡ suc degree
-  pub table : Inverses inverses
   pub handed : Handed w left v hs
 
 -- the bits that are left and the inverse are those of cell i
@@ -48,24 +48,24 @@ pub record Right (w : ℕ) (ds hs : List ℕ) (i bits u : ℕ) : Type 0 where
   pub bits_left : bits ≡ w - weight (digits ds i ++ hs)
   pub unit : u ≡ inverse (odd_factor (digits ds i ++ hs)) 64
 
-pub right_row : (w left v : ℕ) (masks units t₀ ds hs : List ℕ) (i ones bits u : ℕ) → OfRow w left v masks units t₀ ds hs → i < length t₀ → left ≤ 64
-    → ones ≡ at masks i / 2 ^ (64 - left) → ((b : ℕ) → b ≤ 64 → ones ≡ 2 ^ b - 1 → bits ≡ b) → u ≡ (v * at units i) % 2 ^ 64 → Right w ds hs i bits u
+pub right_row : (w left v : ℕ) (row masks units ds hs : List ℕ) (i bits u : ℕ) → OfRow w left v row ds hs → i < cells row → left ≤ 64
+    → Laid row masks → Inverted row units → ((b : ℕ) → at masks i / 2 ^ (64 - left) ≡ 2 ^ b - 1 → b ≤ 64 → bits ≡ b) → u ≡ (v * at units i) % 2 ^ 64
+    → Right w ds hs i bits u
 unfolding bound
-right_row w left v masks units t₀ ds hs i ones bits u r h small o counted e =
-    let inside : i < cells ds = rw r.long at h in
-    let es = digits ds i in
+right_row w left v row masks units ds hs i bits u r inside small laid inverts counted e =
+    let es = digits row i in
     let left_over : left - weight es ≡ w - weight (es ++ hs) = omega (arith, r.handed.bits, weight-append es hs) in
-    record {
+    rw r.one
+    (record {
       inside = inside;
-      bits_left =
-          counted (left - weight es) (omega arith) (o ∙ ap (◌/ 2 ^ (64 - left)) (r.row.laid i inside) ∙ row_mask left es small) ∙ left_over;
-      unit = e ∙ ap₂ (λ (y z : ℕ). (y * z) % 2 ^ 64) r.handed.unit (r.row.inverts i inside) ∙ inverse_parts es hs;
-    }
+      bits_left = counted (left - weight es) (ap (◌/ 2 ^ (64 - left)) (laid i inside) ∙ row_mask left es small) (omega arith) ∙ left_over;
+      unit = e ∙ ap₂ (λ (y z : ℕ). (y * z) % 2 ^ 64) r.handed.unit (inverts i inside) ∙ inverse_parts es hs;
+    })
 
-pub right_line : (w left v : ℕ) (inverses t₀ ds hs : List ℕ) (i bits u : ℕ) → OfLine w left v inverses t₀ ds hs → i < length t₀ → length t₀ ≤ length inverses
-    → LineBits left i bits → u ≡ (v * at inverses i) % 2 ^ 64 → Right w ds hs i bits u
+pub right_line : (w left v : ℕ) (inverses t₀ ds hs : List ℕ) (i bits u : ℕ) → OfLine w left v t₀ ds hs → i < length t₀ → length t₀ ≤ length inverses
+    → Inverses inverses → LineBits left i bits → u ≡ (v * at inverses i) % 2 ^ 64 → Right w ds hs i bits u
 unfolding cells digits weight
-right_line w left v inverses t₀ ds hs i bits u r h room b e =
+right_line w left v inverses t₀ ds hs i bits u r h room table b e =
     let d = r.degree in
     let small : i < suc d = rw r.long at h in
     let exponents : digits ds i ++ hs ≡ i ∷ hs = ap (λ (l : List ℕ). digits l i ++ hs) r.one ∙ ap (◌∷ hs) (mod-eq_of_lt small) in
@@ -75,7 +75,7 @@ right_line w left v inverses t₀ ds hs i bits u r h room b e =
       bits_left = b ∙ left_over ∙ ap (λ (l : List ℕ). w - weight l) (sym exponents);
       unit =
           e
-          ∙ ap₂ (λ (y z : ℕ). (y * z) % 2 ^ 64) r.handed.unit (r.table i (omega arith))
+          ∙ ap₂ (λ (y z : ℕ). (y * z) % 2 ^ 64) r.handed.unit (table i (omega arith))
           ∙ inverse_more i hs
           ∙ ap (λ (l : List ℕ). inverse (odd_factor l) 64) (sym exponents);
     }
@@ -97,7 +97,7 @@ module _ (Fits : List ℕ → List ℕ → Type 0) (w : ℕ) (t₀ : List ℕ) w
   row_start = record { same = refl; within = zero-le; testing = λ ds hs k. testing_start _ _ t₀ }
 
   module _ (t : List ℕ) (i bits u : ℕ) (r : InRow Fits w t₀ t i) (h : i < length t) (small : w ≤ 64)
-      (right : (ds hs : List ℕ) → Fits ds hs → Right w ds hs i bits u) (x : Cell)
+      (right : (ds hs : List ℕ) → Fits ds hs → Right w ds hs i bits u) (x : Option ℕ)
       (came : (q : ℕ) → bits ≡ w - q
       → x ≡ cell_of (eqb (at t i % 2 ^ w % 2 ^ min q w) 0) ((at t i % 2 ^ w / 2 ^ q * u) % 2 ^ (w - q))) where
     module _ (ds hs : List ℕ) (fits : Fits ds hs) where
@@ -118,12 +118,12 @@ module _ (Fits : List ℕ → List ℕ → Type 0) (w : ℕ) (t₀ : List ℕ) w
           (ap (λ (y : ℕ). (at t₀ i % 2 ^ w / 2 ^ q * y) % 2 ^ (w - q)) k.unit ∙ coefficient-cut w es q (at t₀ i % 2 ^ w) refl small)
 
     -- number i does not pass
-    pub row-fails : x ≡ Cell.Refused → (ds hs : List ℕ) → Fits ds hs → Extracted w ds hs t₀ t false
-    row-fails e ds hs fits =
-        tested_fails _ _ _ t i (right ds hs fits).inside (cell-refused (test w ds hs t₀ i) (number w ds hs t₀ i) (sym (said ds hs fits) ∙ e))
+    pub row-fails : x ≡ None → (t' ds hs : List ℕ) → Fits ds hs → Extracted w ds hs t₀ t' false
+    row-fails e t' ds hs fits =
+        tested_fails _ _ _ t' i (right ds hs fits).inside (cell-refused (test w ds hs t₀ i) (number w ds hs t₀ i) (sym (said ds hs fits) ∙ e))
 
     -- number i passes
-    pub row_step : (c : ℕ) → x ≡ Cell.Coefficient c → InRow Fits w t₀ (set t i c) (i + 1)
+    pub row_step : (c : ℕ) → x ≡ Some c → InRow Fits w t₀ (set t i c) (i + 1)
     row_step c e =
         record {
           same = length-set t i c ∙ r.same;

@@ -13,7 +13,7 @@ use Rattle.theory.specs.Parts.{part, put, at_part, length_part, length-put}
 use Rattle.box_rows.specs.Lines.{LineBits, line_full, line_bits}
 use Rattle.multivar_poly_recovery.proofs.CellFactors.{cells_last, digits_last, inverse_more}
 use Rattle.multivar_poly_recovery.specs.Tested.{Tested, Testing, tested_cong, testing_start, testing_part, testing_done, tested_part_fails}
-use Rattle.multivar_poly_recovery.specs.Extracted.{test, number, Extracted, Inverses}
+use Rattle.multivar_poly_recovery.specs.Extracted.{test, number, Promise, Inverses}
 
 -- ---- the last of the degrees
 
@@ -62,11 +62,7 @@ one-over w left bits e hs a b = omega arith
 
 -- ---- the sub-boxes
 
--- what extraction of a box promises
-abbrev pub Promise : ℕ → ℕ → ℕ → List ℕ → List ℕ → List ℕ → Bool → Type 0
-Promise left v w ds t₀ t r = (hs : List ℕ) → left ≡ w - weight hs → v ≡ inverse (odd_factor hs) 64 → Extracted w ds hs t₀ t r
-
--- the same for the list of degrees as it was lent
+-- what extraction promises for the list of degrees as it was lent
 pub promise_split : (left v w : ℕ) (ds es t₀ t : List ℕ) (r : Bool) → ds ≡ es → Promise left v w es t₀ t r → Promise left v w ds t₀ t r
 promise_split left v w ds es t₀ t r e p = subst (λ (l : List ℕ). Promise left v w l t₀ t r) (sym e) p
 

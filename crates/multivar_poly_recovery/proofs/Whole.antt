@@ -5,8 +5,7 @@ use Rattle.meaning.specs.Boxes.{cells, digits}
 use Rattle.meaning.specs.Values.{weight}
 use Rattle.meaning.specs.Recovery.{every, divides, coefficient}
 use Rattle.multivar_poly_recovery.specs.Tested.{Tested, tested_cong, tested_every, tested_tabulate}
-use Rattle.multivar_poly_recovery.specs.Extracted.{Extracted}
-use Rattle.multivar_poly_recovery.proofs.SubBoxes.{Promise}
+use Rattle.multivar_poly_recovery.specs.Extracted.{Extracted, Promise}
 use Rattle.multivar_poly_recovery.proofs.RowUnits.{no_unit}
 
 -- what the walk promises then

@@ -12,7 +12,6 @@ use Rattle.meaning.specs.Recovery.{difference, every, divides, coefficient, acce
 use Rattle.theory.specs.Every.{every_cong}
 use Rattle.theory.specs.DifferenceBounds.{difference-lt}
 use Rattle.theory.specs.Tables.{length-tabulate, tabulate_cong, at-tabulate}
-use Rattle.lines.specs.declared.Transform.{Transform}
 use Rattle.lines.specs.Transforms.{transformed}
 use Rattle.multivar_poly_recovery.proofs.Multiples.{mod_scaled, along_scaled}
 
@@ -40,7 +39,7 @@ module _ (w : ℕ) (ds v : List ℕ) (h : w ≤ 64) (whole : length v ≡ cells 
           ∙ mod_scaled (2 ^ w) (2 ^ (64 - w)) (pow_pos w) (pow_pos (64 - w)) (at v n)
 
   -- and so are their differences
-  at-differenced : (n : ℕ) → n < cells ds → at (transformed Transform.Differences (2 ^ 64) ds high) n ≡ difference w ds v n * 2 ^ (64 - w)
+  at-differenced : (n : ℕ) → n < cells ds → at (transformed newton (2 ^ 64) ds high) n ≡ difference w ds v n * 2 ^ (64 - w)
   unfolding difference differences grid
   at-differenced n k =
       let long : n < length high = rw (length-tabulate (length v) _, whole) k in
@@ -51,7 +50,7 @@ module _ (w : ℕ) (ds v : List ℕ) (h : w ≤ 64) (whole : length v ≡ cells 
 
   -- the values moved up, differenced modulo 2^64, moved down, tested and divided
   pub recovered_of_steps : (a b c t : List ℕ) (r : Bool) → a ≡ high
-      → b ≡ cond (eqb (length a) (cells ds)) (transformed Transform.Differences (2 ^ 64) ds a) a
+      → b ≡ cond (eqb (length a) (cells ds)) (transformed newton (2 ^ 64) ds a) a
       → c ≡ tabulate (length b) (λ n. at b n / 2 ^ (64 - w))
       → r ≡ every (cells ds) (λ n. divides w (digits ds n) (at c n % 2 ^ w))
       → t ≡ cond r (tabulate (cells ds) (λ n. coefficient w (digits ds n) (at c n % 2 ^ w))) (tabulate (cells ds) (λ n. 0))
@@ -63,7 +62,7 @@ module _ (w : ℕ) (ds v : List ℕ) (h : w ≤ 64) (whole : length v ≡ cells 
       long : length high ≡ cells ds
       long = length-tabulate (length v) _ ∙ whole
 
-      all : b ≡ transformed Transform.Differences (2 ^ 64) ds high
+      all : b ≡ transformed newton (2 ^ 64) ds high
       all = differenced ∙ (rw (raised, eq-eqb (length high) (cells ds) long))
 
       count : length b ≡ cells ds

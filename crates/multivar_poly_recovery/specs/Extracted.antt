@@ -1,19 +1,17 @@
 -- What extraction leaves in the box of ds, where hs are the exponents of the variables behind those of ds.
-use Rattle.std.specs.Prelude.{◌≡◌, ℕ, ◌-◌, ◌%◌, ◌^◌, ◌<◌, ◌≤◌, Bool, true, false, ◌&&◌, List, [], ◌∷◌, ◌++◌, length, take, nat_lt}
+use Rattle.std.specs.Prelude.{◌≡◌, ℕ, ◌-◌, ◌%◌, ◌^◌, ◌<◌, ◌≤◌, Bool, true, false, Option, Some, None, List, ◌++◌, length}
 use Rattle.meaning.specs.Tables.{at}
 use Rattle.meaning.specs.Factorials.{factorial, odd_part}
 use Rattle.meaning.specs.Boxes.{cells, digits}
 use Rattle.meaning.specs.Inverses.{inverse}
-use Rattle.meaning.specs.Values.{odd_factor}
+use Rattle.meaning.specs.Values.{weight, odd_factor}
 use Rattle.meaning.specs.Recovery.{divides, coefficient}
 use Rattle.multivar_poly_recovery.specs.Tested.{Tested}
-use Rattle.box_rows.specs.Rows.{Laid, Rowed}
-use Rattle.multivar_poly_recovery.specs.declared.extraction.Cell.{Cell}
 
 -- the coefficient v where the test holds
-abbrev pub cell_of : Bool → ℕ → Cell
-cell_of true v = Cell.Coefficient v
-cell_of false v = Cell.Refused
+abbrev pub cell_of : Bool → ℕ → Option ℕ
+cell_of true v = Some v
+cell_of false v = None
 
 -- the test of the difference in cell n
 abbrev pub test : ℕ → List ℕ → List ℕ → List ℕ → ℕ → Bool
@@ -27,6 +25,10 @@ number w ds hs t n = coefficient w (digits ds n ++ hs) (at t n % 2 ^ w)
 abbrev pub Extracted : ℕ → List ℕ → List ℕ → List ℕ → List ℕ → Bool → Type 0
 Extracted w ds hs t₀ t r = Tested (test w ds hs t₀) (number w ds hs t₀) (cells ds) t r
 
+-- the same whatever the exponents hs are that leave `left` bits and have an odd part of which v is the inverse
+abbrev pub Promise : ℕ → ℕ → ℕ → List ℕ → List ℕ → List ℕ → Bool → Type 0
+Promise left v w ds t₀ t r = (hs : List ℕ) → left ≡ w - weight hs → v ≡ inverse (odd_factor hs) 64 → Extracted w ds hs t₀ t r
+
 -- a number whose low bits are ones, w at most
 pub record Mask (w mask : ℕ) : Type 0 where
   pub bits : ℕ
@@ -37,10 +39,9 @@ pub record Mask (w mask : ℕ) : Type 0 where
 abbrev pub unit_at : List ℕ → ℕ → ℕ
 unit_at ds n = inverse (odd_factor (digits ds n)) 64
 
--- the tables of a row that is the box of ds
-pub record Row (ds masks units : List ℕ) : Type 0 where
-  pub laid : Laid ds masks
-  pub inverts : (i : ℕ) → i < cells ds → at units i ≡ unit_at ds i
+-- a table of the inverses of the cells of the box of ds
+abbrev pub Inverted : List ℕ → List ℕ → Type 0
+Inverted ds units = (i : ℕ) → i < cells ds → at units i ≡ unit_at ds i
 
 -- a table of inverses of the odd parts of factorials
 abbrev pub Inverses : List ℕ → Type 0
@@ -49,15 +50,3 @@ Inverses t = (k : ℕ) → k < length t → at t k ≡ inverse (odd_part (factor
 -- every degree is below n
 abbrev pub Reaching : List ℕ → ℕ → Type 0
 Reaching ds n = (i : ℕ) → i < length ds → at ds i < n
-
-abbrev pub below16 : List ℕ → Bool
-below16 [] = true
-below16 (d ∷ ds) = nat_lt d 16 && below16 ds
-
--- the tables that serve the box of ds, of which the first variables make rows
-pub record Serving (first : ℕ) (ds inverses masks units : List ℕ) : Type 0 where
-  pub rowed : Rowed first ds masks
-  pub room : cells (take first ds) ≤ length units
-  pub inverts : (i : ℕ) → i < cells (take first ds) → at units i ≡ unit_at (take first ds) i
-  pub table : Inverses inverses
-  pub reach : Reaching ds (length inverses)

@@ -1,267 +1,301 @@
 // From Newton's differences to the coefficients of the falling factorials, in place. The variables are taken from the last on: the cells of one exponent of
 // the last variable are a part of the table, for which the bits that are left and the inverse so far are handed on. In a large box the first variables,
 // as many as have 256 cells or fewer together, make rows: for each cell of a row the mask and the inverse are laid out once. In a small one the walk ends
-// at lines, along which the mask loses its bits.
-ghost use Rattle.std.specs.Prelude.{◌≡◌, ℕ, suc, ◌-◌, ◌*◌, ◌/◌, ◌%◌, ◌^◌, ◌<◌, ◌≤◌, min, true, cond, List, [], ◌∷◌, length, ◌==◌};
+// at lines, along which the mask loses its bits. Each walk ends at the first difference that is not divisible as it has to be, with `None`. The table
+// and the degrees stay two parameters: each function cuts both anew. Structs are copied, and neither compared nor printed.
+ghost use Rattle.std.specs.Prelude.{◌≡◌, ℕ, suc, ◌-◌, ◌*◌, ◌/◌, ◌%◌, ◌^◌, ◌<◌, ◌≤◌, min, cond, List, [], ◌∷◌, length, take, ◌==◌};
+ghost use Rattle.std.specs.Option.{is_some};
+ghost use Rattle.meaning.specs.Factorials.{twos};
 ghost use Rattle.meaning.specs.Tables.{tabulate, at};
-ghost use Rattle.meaning.specs.Inverses.{inverse};
 ghost use Rattle.meaning.specs.Boxes.{cells, digits};
-ghost use Rattle.meaning.specs.Values.{weight, odd_factor};
 ghost use Rattle.meaning.specs.Recovery.{every, divides, coefficient};
-ghost use Rattle.multivar_poly_recovery.specs.Extracted.{Extracted, Row, Mask, Inverses, Reaching, Serving, cell_of};
+ghost use Rattle.answers.specs.Said.{said_number};
+ghost use Rattle.box_rows.specs.Rows.{Laid};
+ghost use Rattle.multivar_poly_recovery.specs.Extracted.{Extracted, Promise, Mask, Inverses, Inverted, Reaching, cell_of};
 
 use crate::units;
+use crate::units::OddInverses;
+use answers::Refusal;
+use box_rows::layout;
 
-// The coefficient of a cell, or a difference that is not divisible as it has to be.
+// The low bits of a coefficient that count: how many, and the mask of them.
 #[derive(Clone, Copy)]
-enum Cell {
-    Coefficient(u64),
-    Refused,
+struct Low {
+    bits: u32,
+    ones: u64,
+    ghost mask: { ones ≡ 2 ^ bits - 1 },
 }
 
-// The ones of a mask, which are its low bits.
-fn ones_in(mask: u64) -> u32
-    ensures { (b : ℕ) → b ≤ 64 → mask ≡ 2 ^ b - 1 → result ≡ b }
-{
-    u64::trailing_zeros(std::num::wrapping_add_u64(mask, 1))
-}
-
-// The mask of a cell where `left` bits are left, from that of its place in a row.
-fn mask_left(mask: u64, left: u32) -> u64
-    requires { left ≤ 64 }
-    ensures { result ≡ mask / 2 ^ (64 - left) }
-{
-    if left == 0 {
-        return 0;
-    }
-    mask >> (64 - left)
-}
-
-// The difference x modulo 2^bitwidth, over 2^q and times v, modulo 2^(bitwidth - q), where 2^q divides it; where q is the width or more, 0 if it is 0. So
-// many `bits` are left of the width, and the mask has as many ones.
-fn extract_cell(x: u64, ones: u64, bits: u32, v: u64, bitwidth: u32) -> Cell
-    requires { (bits ≤ bitwidth) × (bitwidth ≤ 64) × (ones ≡ 2 ^ bits - 1) }
-    ensures { (q : ℕ) → bits ≡ bitwidth - q
-        → result ≡ cell_of (x % 2 ^ bitwidth % 2 ^ min q bitwidth == 0) ((x % 2 ^ bitwidth / 2 ^ q * v) % 2 ^ (bitwidth - q)) }
-{
-    let kept = x & arith::bitmask(bitwidth);
-    if ones == 0 {
-        if kept == 0 {
-            return Cell::Coefficient(0);
-        }
-        return Cell::Refused;
-    }
-    let q = bitwidth - bits;
-    let high = kept >> q;
-    if high << q != kept {
-        return Cell::Refused;
-    }
-    Cell::Coefficient(arith::wrapping_mul(high, v) & ones)
-}
-
-// One row, where the exponents of the other variables leave `left` bits, and v is the inverse of the odd part. `masks` and `units` have the mask and the
-// inverse of each cell of a row. Each difference is replaced by its coefficient, up to the first that does not pass.
-fn extract_row(
-    part: &mut [u64],
-    left: u32,
-    v: u64,
-    bitwidth: u32,
-    masks: &[u64],
-    units: &[u64],
-) -> bool
-    requires part_in_bounds { (length part.old ≤ length masks.now) × (length part.old ≤ length units.now) × (left ≤ bitwidth) × (bitwidth ≤ 64) }
-    requires by_index { (i : ℕ) → i < length part.old → Mask 64 (at masks.now i) }
-    ensures { (ds hs : List ℕ) → Row ds masks.now units.now → length part.old ≡ cells ds
-        → left ≡ bitwidth - weight hs → v ≡ inverse (odd_factor hs) 64
-        → Extracted bitwidth ds hs part.old part.new result }
-{
-    let mut i = 0;
-    while i < part.len() {
-        let unit = arith::wrapping_mul(v, units[i]);
-        let ones = mask_left(masks[i], left);
-        let bits = ones_in(ones);
-        let Cell::Coefficient(c) = extract_cell(part[i], ones, bits, unit, bitwidth) else {
-            return false;
-        };
-        part[i] = c;
-        i += 1;
-    }
-    true
-}
-
-// One line, where the exponents of the other variables leave `left` bits, and v is the inverse of the odd part: the same, with bits and a mask that lose the
-// twos in its number from one entry to the next.
-fn extract_line(part: &mut [u64], left: u32, v: u64, bitwidth: u32, inverses: &[u64]) -> bool
-    requires { (length part.old ≤ length inverses.now) × (left ≤ bitwidth) × (bitwidth ≤ 64) }
-    ensures { (d : ℕ) (hs : List ℕ) → Inverses inverses.now → length part.old ≡ suc d
-        → left ≡ bitwidth - weight hs → v ≡ inverse (odd_factor hs) 64
-        → Extracted bitwidth (d ∷ []) hs part.old part.new result }
-{
-    let mut ones = arith::bitmask(left);
-    let mut bits = left;
-    let mut i = 0;
-    while i < part.len() {
-        let unit = arith::wrapping_mul(v, inverses[i]);
-        let Cell::Coefficient(c) = extract_cell(part[i], ones, bits, unit, bitwidth) else {
-            return false;
-        };
-        part[i] = c;
-        i += 1;
-        ones = box_rows::layout::next_mask(ones, i);
-        bits = box_rows::layout::bits_left(bits, i);
-    }
-    true
-}
-
-// Two variables, line by line, where the exponents of the variables behind them leave `left` bits, and v is the inverse of the odd part.
-fn extract_plane(
-    part: &mut [u64],
-    low: u8,
-    high: u8,
-    left: u32,
-    v: u64,
-    bitwidth: u32,
-    inverses: &[u64],
-) -> bool
-    requires { (length part.old ≡ suc high * suc low) × (low < length inverses.now) × (high < length inverses.now) × (left ≤ bitwidth)
-        × (bitwidth ≤ 64) × Inverses inverses.now }
-    ensures { (hs : List ℕ) → left ≡ bitwidth - weight hs → v ≡ inverse (odd_factor hs) 64
-        → Extracted bitwidth (low ∷ (high ∷ [])) hs part.old part.new result }
-{
-    let size = low as usize + 1;
-    let count = high as usize + 1;
-    let mut bits = left;
-    let mut from = 0;
-    let mut e = 0;
-    while e < count {
-        let end = from + size;
-        let inverse = arith::wrapping_mul(v, inverses[e]);
-        if !extract_line(&mut part[from..end], bits, inverse, bitwidth, inverses) {
-            return false;
-        }
-        from = end;
-        e += 1;
-        bits = box_rows::layout::bits_left(bits, e);
-    }
-    true
-}
-
-// The box of the variables of `degrees`, of which the first ones make rows, where the exponents of the variables behind them leave `left` bits, and v is the
-// inverse of the odd part: each sub-box of the last variable in turn, up to the first difference that does not pass. Where no variable makes rows the
-// walk ends at two variables.
-fn extract_box(
-    part: &mut [u64],
-    degrees: &[u8],
-    first: usize,
-    left: u32,
-    v: u64,
-    bitwidth: u32,
-    inverses: &[u64],
-    masks: &[u64],
-    units: &[u64],
-) -> bool
-    requires part_len { (length part.old ≡ cells degrees.now) × (left ≤ bitwidth) × (bitwidth ≤ 64) }
-    requires serving { Serving first degrees.now inverses.now masks.now units.now }
-    ensures { (hs : List ℕ) → left ≡ bitwidth - weight hs → v ≡ inverse (odd_factor hs) 64
-        → Extracted bitwidth degrees.now hs part.old part.new result }
-{
-    if degrees.len() == first {
-        return extract_row(part, left, v, bitwidth, masks, units);
-    }
-    if degrees.len() == 1 {
-        return extract_line(part, left, v, bitwidth, inverses);
-    }
-    if degrees.len() + first == 2 {
-        return extract_plane(part, degrees[0], degrees[1], left, v, bitwidth, inverses);
-    }
-    let last = degrees.len() - 1;
-    let count = degrees[last] as usize + 1;
-    let size = part.len() / count;
-    let mut bits = left;
-    let mut from = 0;
-    let mut e = 0;
-    while e < count {
-        let end = from + size;
-        let inverse = arith::wrapping_mul(v, inverses[e]);
-        if !extract_box(
-            &mut part[from..end],
-            &degrees[..last],
-            first,
+impl Low {
+    // All of them.
+    fn all(bits: u32) -> Low
+        requires { bits ≤ 64 }
+        ensures { result.bits ≡ bits }
+    {
+        Low {
             bits,
-            inverse,
-            bitwidth,
-            inverses,
-            masks,
-            units,
-        ) {
-            return false;
+            ones: arith::bitmask(bits),
         }
-        from = end;
-        e += 1;
-        bits = box_rows::layout::bits_left(bits, e);
     }
-    true
+
+    // Those of a mask.
+    fn of(ones: u64) -> Low
+        requires { Mask 64 ones }
+        ensures { (b : ℕ) → b ≤ 64 → ones ≡ 2 ^ b - 1 → result.bits ≡ b }
+    {
+        Low {
+            bits: ones.wrapping_add(1).trailing_zeros(),
+            ones,
+        }
+    }
+
+    // Without the twos in n.
+    fn without(self, n: usize) -> Low
+        ensures { result.bits ≡ self.bits - twos n }
+    {
+        Low {
+            bits: layout::bits_left(self.bits, n),
+            ones: layout::next_mask(self.ones, n),
+        }
+    }
 }
 
-// A box by rows.
-fn extract_rows(table: &mut [u64], degrees: &[u8], bitwidth: u32) -> bool
+// What the exponents of the variables behind a part of the box leave to it: so many bits of the width, and the inverse modulo 2^64 of the odd part of their
+// factorials.
+#[derive(Clone, Copy)]
+struct Left {
+    width: u32,
+    bits: u32,
+    inverse: u64,
+    ghost few: { bits ≤ width },
+    ghost high: { width ≤ 64 },
+}
+
+// The tables of a box: the inverses by exponent, and of its first variables, which make its rows, the degrees, and for each cell of a row the mask and the
+// inverse.
+#[derive(Clone, Copy)]
+struct Tables<'a> {
+    inverses: &'a [u64],
+    row: &'a [u8],
+    masks: &'a [u64],
+    units: &'a [u64],
+    ghost serve: { Inverses inverses.now },
+    ghost masked: { cells row.now ≤ length masks.now },
+    ghost laid: { Laid row.now masks.now },
+    ghost room: { cells row.now ≤ length units.now },
+    ghost inverts: { Inverted row.now units.now },
+}
+
+impl Left {
+    // To the whole box, behind which there is no variable.
+    fn whole(width: u32) -> Left
+        requires { width ≤ 64 }
+        ensures { (result.width ≡ width) × (result.bits ≡ width) × (result.inverse ≡ 1) }
+    {
+        Left {
+            width,
+            bits: width,
+            inverse: 1,
+        }
+    }
+
+    // To the part of one exponent of the last variable, which has the given inverse and leaves so many bits.
+    fn sub_box(self, bits: u32, inverse: u64) -> Left
+        requires { bits ≤ self.bits }
+        ensures { (result.width ≡ self.width) × (result.bits ≡ bits) × (result.inverse ≡ (self.inverse * inverse) % 2 ^ 64) }
+    {
+        Left {
+            width: self.width,
+            bits,
+            inverse: arith::wrapping_mul(self.inverse, inverse),
+        }
+    }
+
+    // The bits of a cell whose mask at its place in a row is given.
+    fn low(self, mask: u64) -> Low
+        requires { Mask 64 mask }
+        ensures few { result.bits ≤ self.bits }
+        ensures counted { (b : ℕ) → mask / 2 ^ (64 - self.bits) ≡ 2 ^ b - 1 → b ≤ 64 → result.bits ≡ b }
+    {
+        if self.bits == 0 {
+            return Low::of(0);
+        }
+        Low::of(mask >> (64 - self.bits))
+    }
+
+    // The coefficient of the difference x modulo 2^width: over 2^q and times the unit, modulo 2^(width - q), where 2^q divides it; where q is the width or
+    // more, 0 if it is 0. So many low bits are left of the width.
+    fn coefficient(self, x: u64, low: Low, unit: u64) -> Option<u64>
+        requires { low.bits ≤ self.width }
+        ensures { (q : ℕ) → low.bits ≡ self.width - q
+            → result ≡ cell_of (x % 2 ^ self.width % 2 ^ min q self.width == 0) ((x % 2 ^ self.width / 2 ^ q * unit) % 2 ^ (self.width - q)) }
+    {
+        let kept = x & arith::bitmask(self.width);
+        if low.ones == 0 {
+            if kept == 0 {
+                return Some(0);
+            }
+            return None;
+        }
+        let q = self.width - low.bits;
+        let high = kept >> q;
+        if high << q != kept {
+            return None;
+        }
+        Some(arith::wrapping_mul(high, unit) & low.ones)
+    }
+
+    // One row: each difference is replaced by its coefficient.
+    fn row(self, part: &mut [u64], tables: &Tables) -> Option<()>
+        requires { length part.old ≡ cells tables.now.row.now }
+        ensures { Promise self.bits self.inverse self.width tables.now.row.now part.old part.new (is_some result) }
+    {
+        let masks = tables.masks;
+        let units = tables.units;
+        for (i, x) in part.iter_mut().enumerate() {
+            let unit = arith::wrapping_mul(self.inverse, units[i]);
+            *x = self.coefficient(*x, self.low(masks[i]), unit)?;
+        }
+        Some(())
+    }
+
+    // One line: the same, with bits that lose the twos in its number from one entry to the next.
+    fn line(self, part: &mut [u64], inverses: &OddInverses) -> Option<()>
+        requires { length part.old ≤ length inverses.now.table.now }
+        ensures { (d : ℕ) → length part.old ≡ suc d
+            → Promise self.bits self.inverse self.width (d ∷ []) part.old part.new (is_some result) }
+    {
+        let table = inverses.table;
+        let mut low = Low::all(self.bits);
+        for (i, x) in part.iter_mut().enumerate() {
+            let unit = arith::wrapping_mul(self.inverse, table[i]);
+            *x = self.coefficient(*x, low, unit)?;
+            low = low.without(i + 1);
+        }
+        Some(())
+    }
+
+    // Two variables, line by line: `boxes` with lines in the place of sub-boxes, which spares each line of a small box a call and the choice between row, line
+    // and box (docs/SPEED.md, Recovery).
+    fn plane(self, part: &mut [u64], first: u8, last: u8, inverses: &OddInverses) -> Option<()>
+        requires { (length part.old ≡ suc last * suc first) × (first < length inverses.now.table.now) × (last < length inverses.now.table.now) }
+        ensures { Promise self.bits self.inverse self.width (first ∷ (last ∷ [])) part.old part.new (is_some result) }
+    {
+        let size = first as usize + 1;
+        let mut bits = self.bits;
+        let mut from = 0;
+        for e in 0..last as usize + 1 {
+            let end = from + size;
+            self.sub_box(bits, inverses.table[e])
+                .line(&mut part[from..end], inverses)?;
+            from = end;
+            bits = layout::bits_left(bits, e + 1);
+        }
+        Some(())
+    }
+
+    // The box of the variables of `degrees`, of which the first ones make rows: each sub-box of the last variable in turn. Where no variable makes rows the
+    // walk ends at two variables.
+    fn boxes(self, part: &mut [u64], degrees: &[u8], tables: &Tables) -> Option<()>
+        requires part_len { length part.old ≡ cells degrees.now }
+        requires begins { tables.now.row.now ≡ take (length tables.now.row.now) degrees.now }
+        requires reach { Reaching degrees.now (length tables.now.inverses.now) }
+        ensures { Promise self.bits self.inverse self.width degrees.now part.old part.new (is_some result) }
+    {
+        let inverses = tables.inverses;
+        if degrees.len() == tables.row.len() {
+            return self.row(part, tables);
+        }
+        if degrees.len() == 1 {
+            return self.line(part, &OddInverses { table: inverses });
+        }
+        if degrees.len() + tables.row.len() == 2 {
+            let inverses = OddInverses { table: inverses };
+            return self.plane(part, degrees[0], degrees[1], &inverses);
+        }
+        let last = degrees.len() - 1;
+        let count = degrees[last] as usize + 1;
+        let size = part.len() / count;
+        let mut bits = self.bits;
+        let mut from = 0;
+        for e in 0..count {
+            let end = from + size;
+            let left = self.sub_box(bits, inverses[e]);
+            left.boxes(&mut part[from..end], &degrees[..last], tables)?;
+            from = end;
+            bits = layout::bits_left(bits, e + 1);
+        }
+        Some(())
+    }
+}
+
+// A box by rows, in a function by itself, so that small boxes do not pay for its tables. It and the next two take the width and make `Left` of it: where `Left`
+// was handed to them the compiler did not see that the inverse is 1, and a line of 16 took 5 percent longer.
+#[inline(never)]
+fn by_rows(table: &mut [u64], degrees: &[u8], bitwidth: u32) -> Option<()>
     requires { (length table.old ≡ cells degrees.now) × (bitwidth ≤ 64) }
-    ensures { Extracted bitwidth degrees.now [] table.old table.new result }
+    ensures { Extracted bitwidth degrees.now [] table.old table.new (is_some result) }
 {
     let inverses = math_utils::odd_factors::odd_factorial_inverses();
+    // Fixed memory, with room for the largest row.
     let mut masks = [0u64; 256];
     let mut units = [0u64; 256];
-    let first = box_rows::layout::lay_out(&mut masks, degrees);
-    units::lay_out(&mut units, &degrees[..first], &inverses);
-    extract_box(
-        table, degrees, first, bitwidth, 1, bitwidth, &inverses, &masks, &units,
-    )
+    let first = layout::lay_out(&mut masks, degrees).unwrap();
+    let row = &degrees[..first];
+    units::lay_out(&mut units, row, &OddInverses { table: &inverses });
+    let tables = Tables {
+        inverses: &inverses,
+        row,
+        masks: &masks,
+        units: &units,
+    };
+    Left::whole(bitwidth).boxes(table, degrees, &tables)
 }
 
 // A box by lines, where no degree is above 15.
-fn extract_lines(table: &mut [u64], degrees: &[u8], bitwidth: u32) -> bool
+fn by_lines(table: &mut [u64], degrees: &[u8], bitwidth: u32) -> Option<()>
     requires { (length table.old ≡ cells degrees.now) × (bitwidth ≤ 64) × Reaching degrees.now 16 }
-    ensures { Extracted bitwidth degrees.now [] table.old table.new result }
+    ensures { Extracted bitwidth degrees.now [] table.old table.new (is_some result) }
 {
     let inverses = units::first_inverses();
     if degrees.len() == 1 {
-        return extract_line(table, bitwidth, 1, bitwidth, &inverses);
+        return Left::whole(bitwidth).line(table, &OddInverses { table: &inverses });
     }
-    let masks = [0xffff_ffff_ffff_ffffu64; 1];
-    let units = [1u64; 1];
-    extract_box(
-        table, degrees, 0, bitwidth, 1, bitwidth, &inverses, &masks, &units,
-    )
+    let tables = Tables {
+        inverses: &inverses,
+        row: &degrees[..0],
+        masks: &[0xffff_ffff_ffff_ffff],
+        units: &[1],
+    };
+    Left::whole(bitwidth).boxes(table, degrees, &tables)
 }
 
 // Rows pay from some hundred cells on.
-fn extract_whole(table: &mut [u64], degrees: &[u8], bitwidth: u32) -> bool
+fn whole(table: &mut [u64], degrees: &[u8], bitwidth: u32) -> Option<()>
     requires { (length table.old ≡ cells degrees.now) × (bitwidth ≤ 64) }
-    ensures { Extracted bitwidth degrees.now [] table.old table.new result }
+    ensures { Extracted bitwidth degrees.now [] table.old table.new (is_some result) }
 {
-    if 256 < table.len() {
-        return extract_rows(table, degrees, bitwidth);
+    if 256 < table.len() || !units::below_16(degrees) {
+        return by_rows(table, degrees, bitwidth);
     }
-    if !units::below_16(degrees) {
-        return extract_rows(table, degrees, bitwidth);
-    }
-    extract_lines(table, degrees, bitwidth)
+    by_lines(table, degrees, bitwidth)
 }
 
 // The coefficients from Newton's differences, in place. `table` has a difference for each cell of the box of `degrees`, first variable fastest, read
-// modulo 2^bitwidth, for widths to 64. The result says whether every difference is divisible as it has to be; the table then has the coefficients, and
-// else zeros.
-pub(crate) fn extract(table: &mut [u64], degrees: &[u8], bitwidth: u32) -> bool
+// modulo 2^bitwidth, for widths to 64. Accepted where every difference is divisible as it has to be; the table then has the coefficients. Else it is
+// refused for 6, and the table has zeros.
+pub(crate) fn extract(table: &mut [u64], degrees: &[u8], bitwidth: u32) -> Result<(), Refusal>
     requires { (length table.old ≡ cells degrees.now) × (bitwidth ≤ 64) }
-    ensures says { result ≡ every (cells degrees.now)
-        (λ n. divides bitwidth (digits degrees.now n) (at table.old n % 2 ^ bitwidth)) }
-    ensures leaves { table.new ≡ cond result
+    ensures says { said_number result ≡ cond (every (cells degrees.now)
+        (λ n. divides bitwidth (digits degrees.now n) (at table.old n % 2 ^ bitwidth))) 0 6 }
+    ensures leaves { table.new ≡ cond (every (cells degrees.now)
+        (λ n. divides bitwidth (digits degrees.now n) (at table.old n % 2 ^ bitwidth)))
         (tabulate (cells degrees.now) (λ n. coefficient bitwidth (digits degrees.now n) (at table.old n % 2 ^ bitwidth)))
         (tabulate (cells degrees.now) (λ n. 0)) }
 {
-    if extract_whole(table, degrees, bitwidth) {
-        return true;
+    if whole(table, degrees, bitwidth).is_none() {
+        tables::clear(table);
+        return Err(Refusal::NotDivisible);
     }
-    tables::clear(table);
-    false
+    Ok(())
 }

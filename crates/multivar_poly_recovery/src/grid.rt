@@ -3,16 +3,22 @@ ghost use Rattle.std.specs.Prelude.{◌≡◌, ◌<◌, ◌≤◌, cond, length,
 ghost use Rattle.meaning.specs.Tables.{tabulate};
 ghost use Rattle.meaning.specs.Boxes.{cells};
 ghost use Rattle.meaning.specs.Recovery.{accepts, answer};
-ghost use Rattle.meaning.specs.Settings.{cube};
 ghost use Rattle.meaning.specs.Calls.{recovery_number, recovery_left};
 ghost use Rattle.answers.specs.Said.{said_number};
+ghost use Rattle.settings.specs.Forms.{degrees_of};
 
 use crate::{extraction, shifts};
-use answers::{Outcome, Refusal};
-use lines::Transform;
+use answers::Refusal;
+use lines::Differences;
+use settings::Settings;
 
 // The coefficients of the box of `degrees`, or 6 and zeros.
-fn recover_from_grid(values: &[u64], degrees: &[u8], bitwidth: u32, out: &mut [u64]) -> Outcome
+fn recover_from_grid(
+    values: &[u64],
+    degrees: &[u8],
+    bitwidth: u32,
+    out: &mut [u64],
+) -> Result<(), Refusal>
     requires { (length values.now ≡ cells degrees.now) × (length out.old ≡ cells degrees.now) × (0 < bitwidth) × (bitwidth ≤ 64) }
     ensures says { said_number result ≡ (if accepts bitwidth degrees.now values.now then 0 else 6) }
     ensures leaves { out.new ≡ cond (accepts bitwidth degrees.now values.now)
@@ -20,31 +26,21 @@ fn recover_from_grid(values: &[u64], degrees: &[u8], bitwidth: u32, out: &mut [u
 {
     let high = 64 - bitwidth;
     shifts::raise(values, out, high);
-    lines::transform_all(Transform::Differences, out, degrees);
+    lines::transform_all(Differences, out, degrees);
     shifts::lower(out, high);
-    if extraction::extract(out, degrees, bitwidth) {
-        return Outcome::Accepted;
-    }
-    Outcome::Refused(Refusal::NotDivisible)
+    extraction::extract(out, degrees, bitwidth)
 }
 
 // Settings and lengths are checked, then the grid is recovered.
 pub(crate) fn recover_checked(
     values: &[u64],
-    support: &[u64],
-    total: u32,
-    bitwidth: u32,
-    max_degree: u8,
+    settings: &Settings,
     out: &mut [u64],
-) -> Outcome
-    ensures says { said_number result ≡ recovery_number total bitwidth support.now (cube support.now max_degree) values.now out.old }
-    ensures leaves { out.new ≡ recovery_left total bitwidth support.now (cube support.now max_degree) values.now out.old }
+) -> Result<(), Refusal>
+    ensures says { let s = settings.now in said_number result ≡ recovery_number s.total s.bitwidth s.support.now (degrees_of s) values.now out.old }
+    ensures leaves { let s = settings.now in out.new ≡ recovery_left s.total s.bitwidth s.support.now (degrees_of s) values.now out.old }
 {
-    match settings::check_tables(true, support, total, bitwidth, max_degree, values, out) {
-        Outcome::Refused(refusal) => Outcome::Refused(refusal),
-        Outcome::Accepted => {
-            let degrees = [max_degree; 20];
-            recover_from_grid(values, &degrees[..support.len()], bitwidth, out)
-        }
-    }
+    settings.check_tables(true, values, out)?;
+    let degrees = settings.degrees();
+    recover_from_grid(values, degrees.as_slice(), settings.bitwidth, out)
 }

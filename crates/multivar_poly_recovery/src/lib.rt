@@ -2,18 +2,20 @@
 #![tactic(auto)]
 
 ghost use Rattle.std.specs.Prelude.{◌≡◌, true, [], ◌∷◌};
-ghost use Rattle.meaning.specs.Settings.{cube, fits_width};
+ghost use Rattle.meaning.specs.Settings.{fits_width};
 ghost use Rattle.meaning.specs.Calls.{recovery_number, recovery_left};
 ghost use Rattle.demand3.specs.Settings.{CallPasses};
 ghost use Rattle.demand3.specs.Promises.{Decides};
 ghost use Rattle.answers.specs.Said.{said_number};
+ghost use Rattle.settings.specs.Forms.{degrees_of};
 
 mod extraction;
 mod grid;
 mod shifts;
 mod units;
 
-use answers::Outcome;
+use answers::Refusal;
+use settings::Settings;
 
 // Recovers the coefficients of the falling factorials from the values on the grid {0, .., max_degree} over the support variables, modulo 2^bitwidth.
 // `values` has a value for each grid point and `out` gets a coefficient for each exponent list, first support variable fastest; each coefficient is
@@ -24,17 +26,14 @@ use answers::Outcome;
 // then all zero. `values` is not altered.
 pub fn recover_multivar_poly(
     values: &[u64],
-    support: &[u64],
-    total: u32,
-    bitwidth: u32,
-    max_degree: u8,
+    settings: &Settings,
     out: &mut [u64],
-) -> Outcome
-    ensures says { said_number result ≡ recovery_number total bitwidth support.now (cube support.now max_degree) values.now out.old }
-    ensures leaves { out.new ≡ recovery_left total bitwidth support.now (cube support.now max_degree) values.now out.old }
-    ensures decides { Decides (CallPasses 65536 true total (fits_width bitwidth) support.now (cube support.now max_degree)
+) -> Result<(), Refusal>
+    ensures says { let s = settings.now in said_number result ≡ recovery_number s.total s.bitwidth s.support.now (degrees_of s) values.now out.old }
+    ensures leaves { let s = settings.now in out.new ≡ recovery_left s.total s.bitwidth s.support.now (degrees_of s) values.now out.old }
+    ensures decides { let s = settings.now in Decides (CallPasses 65536 true s.total (fits_width s.bitwidth) s.support.now (degrees_of s)
         (λ n. (values.now, n) ∷ (out.old, n) ∷ []))
-        bitwidth (cube support.now max_degree) values.now (said_number result) out.new }
+        s.bitwidth (degrees_of s) values.now (said_number result) out.new }
 {
-    grid::recover_checked(values, support, total, bitwidth, max_degree, out)
+    grid::recover_checked(values, settings, out)
 }

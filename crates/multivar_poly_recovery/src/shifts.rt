@@ -8,10 +8,8 @@ pub(crate) fn raise(from: &[u64], to: &mut [u64], by: u32)
     requires { (by < 64) × (length from.now ≡ length to.old) }
     ensures { to.new ≡ tabulate (length to.old) (λ n. (at from.now n * 2 ^ by) % 2 ^ 64) }
 {
-    let mut i = 0;
-    while i < to.len() {
-        to[i] = from[i] << by;
-        i += 1;
+    for (i, x) in to.iter_mut().enumerate() {
+        *x = from[i] << by;
     }
 }
 
@@ -23,9 +21,7 @@ pub(crate) fn lower(table: &mut [u64], by: u32)
     if by == 0 {
         return;
     }
-    let mut i = 0;
-    while i < table.len() {
-        table[i] = table[i] >> by;
-        i += 1;
+    for x in table.iter_mut() {
+        *x >>= by;
     }
 }

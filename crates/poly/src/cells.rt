@@ -11,10 +11,8 @@ fn line_value(coeffs: &[u64], products: &[u64]) -> u64
     ensures { result ≡ sum (length coeffs.now) (λ i. at products.now i * at coeffs.now i) % 2 ^ 64 }
 {
     let mut sum: u64 = 0;
-    let mut i = 0;
-    while i < coeffs.len() {
-        sum = std::num::wrapping_add_u64(sum, arith::wrapping_mul(products[i], coeffs[i]));
-        i += 1;
+    for i in 0..coeffs.len() {
+        sum = sum.wrapping_add(arith::wrapping_mul(products[i], coeffs[i]));
     }
     sum
 }
@@ -30,20 +28,19 @@ pub(crate) fn box_value(coeffs: &[u64], degrees: &[u8], products: &[u64], size: 
         return line_value(coeffs, products);
     }
     let last = degrees.len() - 1;
-    let count = coeffs.len() / (degrees[last] as usize + 1);
+    let sides = degrees[last] as usize + 1;
+    let count = coeffs.len() / sides;
     let row = last * size;
     let mut sum: u64 = 0;
-    let mut e = 0;
     let mut from = 0;
-    while from < coeffs.len() {
+    for e in 0..sides {
         let falling = products[row + e];
         if falling == 0 {
             return sum;
         }
         let end = from + count;
         let inner = box_value(&coeffs[from..end], &degrees[..last], products, size);
-        sum = std::num::wrapping_add_u64(sum, arith::wrapping_mul(falling, inner));
-        e += 1;
+        sum = sum.wrapping_add(arith::wrapping_mul(falling, inner));
         from = end;
     }
     sum

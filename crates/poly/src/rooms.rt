@@ -12,12 +12,10 @@ fn point_products(table: &mut [u64], size: usize, point: &[u64], bitwidth: u32)
     ensures { Products bitwidth (length point.now) size point.now table.new }
 {
     let mut from = 0;
-    let mut j = 0;
-    while j < point.len() {
+    for coordinate in point {
         let end = from + size;
-        math_utils::falling::falling_products(point[j], bitwidth, &mut table[from..end]);
+        let _ = math_utils::falling::falling_products(*coordinate, bitwidth, &mut table[from..end]);
         from = end;
-        j += 1;
     }
 }
 
@@ -38,14 +36,20 @@ fn value_with(
     cells::box_value(coeffs, degrees, products, size) & arith::bitmask(bitwidth)
 }
 
-// With room for 32 falling products.
-fn value_small(coeffs: &[u64], degrees: &[u8], point: &[u64], size: usize, bitwidth: u32) -> u64
+// With room for so many falling products.
+fn value_in<const ROOM: usize>(
+    coeffs: &[u64],
+    degrees: &[u8],
+    point: &[u64],
+    size: usize,
+    bitwidth: u32,
+) -> u64
     requires asked { Asked bitwidth size degrees.now coeffs.now point.now }
-    requires size_len_bound { length degrees.now * size ≤ 32 }
+    requires enough { (length degrees.now * size ≤ ROOM) × (ROOM ≤ 512) }
     ensures { result ≡ value (2 ^ bitwidth) degrees.now coeffs.now point.now }
 {
     let places = degrees.len() * size;
-    let mut products = [0u64; 32];
+    let mut products = [0u64; ROOM];
     value_with(
         coeffs,
         degrees,
@@ -56,27 +60,13 @@ fn value_small(coeffs: &[u64], degrees: &[u8], point: &[u64], size: usize, bitwi
     )
 }
 
-// With room for 512. It is for values that need more than 32, so that its call of itself is never made: that call keeps the compiler from laying the room out
-// in the frame of the small ones.
+// With room for 512, the most that a box needs. It is kept out of its caller, so that the small values do not have this room in their frame.
+#[inline(never)]
 fn value_large(coeffs: &[u64], degrees: &[u8], point: &[u64], size: usize, bitwidth: u32) -> u64
-    requires asked { Asked bitwidth size degrees.now coeffs.now point.now }
-    requires in_bounds { 32 < length degrees.now * size }
+    requires { Asked bitwidth size degrees.now coeffs.now point.now }
     ensures { result ≡ value (2 ^ bitwidth) degrees.now coeffs.now point.now }
 {
-    let places = degrees.len() * size;
-    if places <= 32 {
-        let never = value_large(coeffs, degrees, point, size, bitwidth);
-        return arith::wrapping_mul(never, never);
-    }
-    let mut products = [0u64; 512];
-    value_with(
-        coeffs,
-        degrees,
-        point,
-        size,
-        bitwidth,
-        &mut products[..places],
-    )
+    value_in::<512>(coeffs, degrees, point, size, bitwidth)
 }
 
 // The value modulo 2^bitwidth of a coefficient box at a point. The degrees are below `size`.
@@ -93,5 +83,5 @@ pub(crate) fn value_at(
     if 32 < degrees.len() * size {
         return value_large(coeffs, degrees, point, size, bitwidth);
     }
-    value_small(coeffs, degrees, point, size, bitwidth)
+    value_in::<32>(coeffs, degrees, point, size, bitwidth)
 }

@@ -1,75 +1,40 @@
 // The leaves. A case is `OP A B C`, with OP 21 wrapping_mul, 22 bitmask, 23 mod_add, 24 mod_sub, 25 mod_mul, 26 mod_neg, 27 twos_in_factorial, 28 precision_bits,
 // 29 degree_cap, 30 odd_part_factorial, 31 mod_inverse_odd, 32 and 33 an entry of the Stirling table of the second and first kind. The number of the answer
 // and its value are printed.
-use crate::print;
-use answers::{Number, Outcome, Refusal};
-use math_utils::Precision;
-use std::io;
-use std::io::Write;
+use crate::calls::{Kind, Leaf};
+use crate::print::{low8, low32};
+use answers::Refusal;
+use math_utils::stirling::{build_stirling_first_kind, build_stirling_second_kind};
 
-// A Stirling table in the first `size` places of a buffer.
-fn build(first: bool, degree: u8, bitwidth: u32, room: &mut [u64]) -> Outcome {
-    if first {
-        return math_utils::stirling::build_stirling_first_kind(degree, bitwidth, room);
+// One entry of a Stirling table.
+fn stirling_entry(kind: Kind, degree: u8, bitwidth: u32, cell: u64) -> Result<u64, Refusal> {
+    let side = usize::from(degree) + 1;
+    let mut room = [0; 65536];
+    let table = &mut room[..side * side];
+    match kind {
+        Kind::First => build_stirling_first_kind(degree, bitwidth, table)?,
+        Kind::Second => build_stirling_second_kind(degree, bitwidth, table)?,
     }
-    math_utils::stirling::build_stirling_second_kind(degree, bitwidth, room)
+    Ok(room[(cell % 65536) as usize])
 }
 
-// One entry of a Stirling table, which is built in the buffer.
-fn entry_in(room: &mut [u64], first: bool, degree: u8, bitwidth: u32, cell: u64) -> Number {
-    let side = degree as usize + 1;
-    let size = side * side;
-    if room.len() < size {
-        return Number::Refused(Refusal::WrongLength);
+// The answer of a leaf to its three numbers.
+pub(crate) fn answer(leaf: Leaf, a: u64, b: u64, c: u64) -> Result<u64, Refusal> {
+    match leaf {
+        Leaf::WrappingMul => Ok(arith::wrapping_mul(a, b)),
+        Leaf::Bitmask => Ok(arith::bitmask(low32(a))),
+        Leaf::ModAdd => Ok(arith::mod_add(a, b, low32(c))),
+        Leaf::ModSub => Ok(arith::mod_sub(a, b, low32(c))),
+        Leaf::ModMul => Ok(arith::mod_mul(a, b, low32(c))),
+        Leaf::ModNeg => Ok(arith::mod_neg(a, low32(b))),
+        Leaf::TwosInFactorial => Ok(u64::from(math_utils::twos_in_factorial(low32(a)))),
+        Leaf::PrecisionBits => {
+            let bits = math_utils::precision_bits(low32(a), low32(b));
+            Ok(u64::from(bits.unwrap_or(0)))
+        }
+        Leaf::DegreeCap => math_utils::degree_cap(low32(a)),
+        Leaf::OddPartFactorial => math_utils::odd_part_factorial(low32(a), low32(b)),
+        Leaf::ModInverseOdd => math_utils::mod_inverse_odd(a, low32(b)),
+        Leaf::Stirling(kind) => stirling_entry(kind, low8(a), low32(b), c),
     }
-    let outcome = build(first, degree, bitwidth, &mut room[..size]);
-    let at = (cell % 65536) as usize;
-    if room.len() <= at {
-        return Number::Refused(Refusal::WrongLength);
-    }
-    let entry = room[at];
-    match outcome {
-        Outcome::Accepted => Number::Value(entry),
-        Outcome::Refused(refusal) => Number::Refused(refusal),
-    }
-}
-
-fn room() -> [u64; 65536] {
-    [0u64; 65536]
-}
-
-fn stirling_entry(first: bool, degree: u8, bitwidth: u32, cell: u64) -> Number {
-    let mut table = room();
-    entry_in(&mut table, first, degree, bitwidth, cell)
-}
-
-fn precision(weight: u32, bitwidth: u32) -> Number {
-    match math_utils::precision_bits(weight, bitwidth) {
-        Precision::Bits(bits) => Number::Value(bits as u64),
-        Precision::Nothing => Number::Value(0),
-    }
-}
-
-fn answer(op: u64, a: u64, b: u64, c: u64) -> Number {
-    match op {
-        21 => Number::Value(arith::wrapping_mul(a, b)),
-        22 => Number::Value(arith::bitmask(print::low32(a))),
-        23 => Number::Value(arith::mod_add(a, b, print::low32(c))),
-        24 => Number::Value(arith::mod_sub(a, b, print::low32(c))),
-        25 => Number::Value(arith::mod_mul(a, b, print::low32(c))),
-        26 => Number::Value(arith::mod_neg(a, print::low32(b))),
-        27 => Number::Value(math_utils::twos_in_factorial(print::low32(a)) as u64),
-        28 => precision(print::low32(a), print::low32(b)),
-        29 => math_utils::degree_cap(print::low32(a)),
-        30 => math_utils::odd_part_factorial(print::low32(a), print::low32(b)),
-        31 => math_utils::mod_inverse_odd(a, print::low32(b)),
-        32 => stirling_entry(false, print::low8(a), print::low32(b), c),
-        33 => stirling_entry(true, print::low8(a), print::low32(b), c),
-        _ => Number::Refused(Refusal::OutOfRange),
-    }
-}
-
-pub(crate) fn replay_leaf<W: Write>(sink: &mut W, numbers: [u64; 128]) -> io::Result<()> {
-    print::answer(sink, answer(numbers[0], numbers[1], numbers[2], numbers[3]))?;
-    print::line_end(sink)
 }

@@ -2,13 +2,12 @@
 ghost use Rattle.std.specs.Prelude.{◌≡◌};
 ghost use Rattle.replay.specs.Lines.{empty_line, digit_read, number_closed};
 
-// The numbers of a line so far, up to 128, and the one that is being read.
-#[derive(Clone, Copy)]
+// The numbers of a line so far, up to 128 and the others 0, and the one that is being read. A call finds its numbers at fixed places, on a short line too.
+#[derive(Clone, Copy, Debug, PartialEq, Eq)]
 pub(crate) struct Line {
     pub(crate) numbers: [u64; 128],
     pub(crate) count: usize,
-    pub(crate) value: u64,
-    pub(crate) pending: bool,
+    pub(crate) open_number: Option<u64>,
 }
 
 impl Line {
@@ -17,10 +16,9 @@ impl Line {
         ensures { result ≡ empty_line }
     {
         Line {
-            numbers: [0u64; 128],
+            numbers: [0; 128],
             count: 0,
-            value: 0,
-            pending: false,
+            open_number: None,
         }
     }
 
@@ -28,40 +26,25 @@ impl Line {
     pub(crate) fn with_digit(self, byte: u8) -> Self
         ensures { result ≡ digit_read self byte }
     {
-        let numbers = self.numbers;
-        let count = self.count;
-        let shifted = arith::wrapping_mul(self.value, 10);
+        let shifted = self.open_number.unwrap_or(0).wrapping_mul(10);
+        let value = shifted.wrapping_add(u64::from(byte % 16));
         Line {
-            numbers: numbers,
-            count: count,
-            value: std::num::wrapping_add_u64(shifted, (byte % 16) as u64),
-            pending: true,
+            open_number: Some(value),
+            ..self
         }
     }
 
     // With the number that is being read put away; a number past the 128th is dropped.
-    pub(crate) fn closed(self) -> Self
+    pub(crate) fn closed(mut self) -> Self
         ensures { result ≡ number_closed self }
     {
-        let at = self.count;
-        let value = self.value;
-        let mut numbers = self.numbers;
-        if self.pending {
-            if at < 128 {
-                numbers[at] = value;
-                return Line {
-                    numbers: numbers,
-                    count: at + 1,
-                    value: 0,
-                    pending: false,
-                };
+        if let Some(value) = self.open_number {
+            if self.count < 128 {
+                self.numbers[self.count] = value;
+                self.count += 1;
             }
         }
-        Line {
-            numbers: numbers,
-            count: at,
-            value: 0,
-            pending: false,
-        }
+        self.open_number = None;
+        self
     }
 }

@@ -1,11 +1,13 @@
 -- What the room of a fit tells of its settings and its counts.
-use Rattle.std.specs.Prelude.{◌≡◌, Bool, true, false, cond, ltb, length}
+use Rattle.std.specs.Prelude.{◌≡◌, Bool, true, false, cond, ltb, List, length}
 use Rattle.std.proofs.Math.Path.{refl, sym, ap}
 use Prim.Native.Nat.{ℕ, zero, suc, ◌*◌, ◌≤◌}
 use Rattle.std.proofs.Common.{suc-ne-zero, ltb-false}
 use Rattle.meaning.specs.Settings.{table_limit, fits_width, settings_number, first}
 use Rattle.meaning.specs.Fit.{Fit, fit_rows, fit_columns_of, fit_settings_number}
 use Rattle.meaning.specs.Counts.{FitRoom, fit_room_of, fit_room_lem}
+use Rattle.settings.specs.declared.Settings.{Settings}
+use Rattle.settings.specs.Forms.{degrees_of}
 use Rattle.answers.specs.declared.Refusal.{Refusal}
 use Rattle.answers.specs.Said.{code}
 use Rattle.room.specs.Sizes.{fit_room_told}
@@ -51,3 +53,8 @@ module _ (f : Fit) where
             entry_count = ap (λ (x : FitRoom). x.entry_count) h;
           }
       go (suc n) p h = absurd (suc-ne-zero n (sym (ap (λ (x : FitRoom). x.number) h)))
+
+-- the degrees of settings that are those of g
+pub lent_degrees : {a g : Settings} {ds : List ℕ} → a ≡ g → (length a.support.now ≤ 20 → ds ≡ degrees_of a) → length g.support.now ≤ 20
+    → ds ≡ degrees_of g
+lent_degrees e all = rw (← e) all

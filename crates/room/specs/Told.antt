@@ -1,6 +1,7 @@
 -- The number and the counts that an answer says.
-use Rattle.std.specs.Prelude.{ℕ}
+use Rattle.std.specs.Prelude.{ℕ, Result, Ok, Err}
 use Rattle.meaning.specs.Counts.{RecoveryRoom}
+use Rattle.answers.specs.declared.Refusal.{Refusal}
 use Rattle.answers.specs.Said.{code}
 use Rattle.room.specs.declared.RecoveryRoom as answer
 
@@ -8,6 +9,6 @@ use Rattle.room.specs.declared.RecoveryRoom as answer
 abbrev pub room_told : ℕ → ℕ → ℕ → RecoveryRoom
 room_told n c s = record { number = n; cell_count = c; subtraction_count = s }
 
-abbrev pub room_said : answer.RecoveryRoom → RecoveryRoom
-room_said (answer.RecoveryRoom.Counts c s) = room_told 0 c s
-room_said (answer.RecoveryRoom.Refused r) = room_told (code r) 0 0
+abbrev pub room_said : Result answer.RecoveryRoom Refusal → RecoveryRoom
+room_said (Ok room) = room_told 0 room.cells room.subtractions
+room_said (Err r) = room_told (code r) 0 0

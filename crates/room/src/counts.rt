@@ -5,8 +5,6 @@ ghost use Rattle.meaning.specs.Sums.{sum};
 ghost use Rattle.meaning.specs.Boxes.{cells};
 ghost use Rattle.meaning.specs.Fit.{columns};
 
-use crate::sizes;
-
 // The count that leaves the running sum at place s: that of `degree + 1` places before, where there is one.
 fn leaving(counts: &[u64], degree: usize, s: usize) -> u64
     requires { s < length counts.now }
@@ -26,11 +24,9 @@ fn sum_up(counts: &[u64], degree: u8, next: &mut [u64])
 {
     let width = degree as usize;
     let mut running: u64 = 0;
-    let mut s = 0;
-    while s < next.len() {
+    for (s, sum) in next.iter_mut().enumerate() {
         running = running + counts[s] - leaving(counts, width, s);
-        next[s] = running;
-        s += 1;
+        *sum = running;
     }
 }
 
@@ -49,10 +45,8 @@ fn count_one(counts: &mut [u64], degree: u8)
     ensures { counts.new ≡ tabulate (length counts.old) (λ s. suc (min degree s)) }
 {
     let most = degree as usize;
-    let mut s = 0;
-    while s < counts.len() {
-        counts[s] = sizes::lesser(most, s) as u64 + 1;
-        s += 1;
+    for (s, count) in counts.iter_mut().enumerate() {
+        *count = s.min(most) as u64 + 1;
     }
 }
 
@@ -61,46 +55,27 @@ fn count_lists(counts: &mut [u64], next: &mut [u64], degrees: &[u8])
     requires { (length next.old ≡ length counts.old) × (length counts.old ≤ 256) × (cells degrees.now ≤ 65536) × (0 < length degrees.now) }
     ensures { counts.new ≡ tabulate (length counts.old) (λ s. length (columns degrees.now s)) }
 {
-    let mut i = degrees.len() - 1;
-    count_one(counts, degrees[i]);
-    while 0 < i {
-        i -= 1;
+    let last = degrees.len() - 1;
+    count_one(counts, degrees[last]);
+    for i in (0..last).rev() {
         add_variable(counts, next, degrees[i]);
     }
 }
 
-// The last of them.
-fn count_in(counts: &mut [u64], next: &mut [u64], degrees: &[u8], most: usize) -> u64
-    requires { (most < 256) × (cells degrees.now ≤ 65536) × (0 < length degrees.now) × (length counts.old ≡ suc most) × (length next.old ≡ suc most) }
+// The last of them, with room for sums below ROOM.
+fn count_within<const ROOM: usize>(degrees: &[u8], most: usize) -> u64
+    requires { (cells degrees.now ≤ 65536) × (0 < length degrees.now) × (most < ROOM) × (ROOM ≤ 256) }
     ensures { result ≡ length (columns degrees.now most) }
 {
-    count_lists(counts, next, degrees);
+    let mut room = [0u64; ROOM];
+    let mut next = [0u64; ROOM];
+    let counts = &mut room[..most + 1];
+    count_lists(counts, &mut next[..most + 1], degrees);
     counts[most]
 }
 
-// With room for sums below 16.
-fn count_few(degrees: &[u8], most: usize) -> u64
-    requires { (cells degrees.now ≤ 65536) × (0 < length degrees.now) × (most < 16) }
-    ensures { result ≡ length (columns degrees.now most) }
-{
-    let end = most + 1;
-    let mut counts = [0u64; 16];
-    let mut next = [0u64; 16];
-    count_in(&mut counts[..end], &mut next[..end], degrees, most)
-}
-
-// With room for every sum.
-fn count_many(degrees: &[u8], most: usize) -> u64
-    requires { (cells degrees.now ≤ 65536) × (0 < length degrees.now) × (most < 256) }
-    ensures { result ≡ length (columns degrees.now most) }
-{
-    let end = most + 1;
-    let mut counts = [0u64; 256];
-    let mut next = [0u64; 256];
-    count_in(&mut counts[..end], &mut next[..end], degrees, most)
-}
-
-// How many exponent lists there are with no exponent above its degree and a sum of `most` at most: in time that grows with the variables times `most`.
+// How many exponent lists there are with no exponent above its degree and a sum of `most` at most: in time that grows with the variables times `most`. Sums
+// below 16 have a small room.
 pub(crate) fn count_columns(degrees: &[u8], most: u8) -> u64
     requires { cells degrees.now ≤ 65536 }
     ensures { result ≡ length (columns degrees.now most) }
@@ -110,7 +85,7 @@ pub(crate) fn count_columns(degrees: &[u8], most: u8) -> u64
         return 1;
     }
     if sum < 16 {
-        return count_few(degrees, sum);
+        return count_within::<16>(degrees, sum);
     }
-    count_many(degrees, sum)
+    count_within::<256>(degrees, sum)
 }

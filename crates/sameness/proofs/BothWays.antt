@@ -4,7 +4,6 @@ use mathlib.Core.Path.{◌≡◌, refl, sym, ◌∙◌, ap, ap₂}
 use mathlib.Core.Bool.{Bool, true, false, ◌&&◌}
 use mathlib.Core.List.{List}
 use Prim.Native.Nat.{ℕ, ◌≤◌, min}
-use native.Mathlib.Nat.{le_trans}
 use native.Mathlib.Omega.{arith}
 use lib.Dec.{eqb}
 use lib.ListN.{length}
@@ -21,7 +20,7 @@ use Rattle.sameness.specs.Places.{is_match, strides, lookups, walked}
 use Rattle.sameness.specs.Lent.{Boxed, Walkable}
 use Rattle.sameness.proofs.PlaceLaws.{matched_walk}
 use Rattle.sameness.proofs.CoveredBoxes.{matched_covered, both_straight}
-use Rattle.sameness.proofs.Lookups.{picked-lookups, steps-le}
+use Rattle.sameness.proofs.Lookups.{picked-lookups}
 
 -- ---- one walk
 
@@ -36,7 +35,6 @@ module _ {ps ds c qs fs d : List ℕ} (a : Boxed ps ds c) (b : Boxed qs fs d) {l
         size = omega (arith, a.whole, a.size);
         limited = ap length e ∙ length-tabulate (length ps) _ ∙ sym a.each;
         stepped = ap length f ∙ length-tabulate (length ps) _ ∙ sym a.each;
-        short = λ i. rw f (le_trans (steps-le ps qs fs i) b.size);
         few = h;
         low = omega (arith, a.each, a.few);
       }

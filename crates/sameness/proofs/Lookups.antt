@@ -3,20 +3,18 @@
 use mathlib.Core.Path.{◌≡◌, refl, sym, ◌∙◌, ap, ap₂, subst}
 use mathlib.Core.Bool.{Bool, true, false, ◌&&◌, cond}
 use mathlib.Core.List.{List, [], ◌∷◌}
-use Prim.Native.Nat.{ℕ, zero, suc, ◌+◌, ◌*◌, ◌≤◌, ◌<◌, zero-le}
-use native.Mathlib.Nat.{one-mul, mul_assoc, mul_comm, le-mul_of_pos_right}
+use Prim.Native.Nat.{ℕ, suc, ◌+◌, ◌*◌, ◌≤◌, ◌<◌}
 use native.Mathlib.Decide.{ℕ_discrete}
 use native.Mathlib.Numerals.{add-one}
 use native.Mathlib.Omega.{arith}
 use borrow.Author.Tests.{eq-eqb, ne_eqb, le-leb, lt-leb}
-use lib.Dec.{leb, eqb}
+use lib.Dec.{leb}
 use lib.ListN.{length, drop, set, drop_of_length-le}
 use lib.Seq.{drop-cons, get_or-set_same, get_or-set_other}
 use Rattle.meaning.specs.Tables.{at, tabulate}
 use Rattle.meaning.specs.Boxes.{cells}
 use Rattle.meaning.specs.Sameness.{scattered, picked, within}
 use Rattle.theory.specs.Tables.{length-tabulate, at-tabulate, at-zeros}
-use Rattle.theory.specs.Boxes.{cells_pos}
 use Rattle.theory.specs.CountedCells.{counted_next, counted-le}
 use Rattle.theory.specs.Scattered.{Places, empty, more, length-scattered}
 use Rattle.sameness.specs.Places.{strides, lookup, lookups}
@@ -151,39 +149,3 @@ module _ {n : ℕ} {f : ℕ → ℕ} {ds : List ℕ} {i : ℕ} (s : Covering n f
       let k : length (tabulate n f) ≤ i = rw (length-tabulate n f) h in
       let k' : length ds ≤ i = omega arith in
       sym (s.rest ∙ ap₂ within (drop_of_length-le (tabulate n f) k) (drop_of_length-le ds k'))
-
--- ---- whole tables
-
--- a table of room for a number for each variable, filled with look-ups
-pub lookups_of : (ps qs es t₀ : List ℕ) {t : List ℕ} → t ≡ tabulate (length t₀) (λ i. lookup (at ps i) qs es) → length t₀ ≡ length ps → t ≡ lookups ps qs es
-lookups_of ps qs es t₀ e k = e ∙ ap (λ (n : ℕ). tabulate n (λ i. lookup (at ps i) qs es)) k
-
--- a look-up among numbers to b gives at most b
-lookup-le : (v b : ℕ) (ps es : List ℕ) → ((i : ℕ) → at es i ≤ b) → lookup v ps es ≤ b
-unfolding lookup
-lookup-le v b [] es h = zero-le
-lookup-le v b (p ∷ ps) [] h = zero-le
-lookup-le v b (p ∷ ps) (e ∷ es) h = go (eqb p v) (lookup-le v b ps es (λ i. h (suc i)))
-  where
-    go : (t : Bool) → lookup v ps es ≤ b → cond t e (lookup v ps es) ≤ b
-    go true r = h 0
-    go false r = r
-
--- a stride is at most the cells
-strides-le : (s : ℕ) (ds : List ℕ) (i : ℕ) → at (strides s ds) i ≤ s * cells ds
-unfolding strides cells
-strides-le s [] i = zero-le
-strides-le s (d ∷ ds) zero = le-mul_of_pos_right s (cells_pos (d ∷ ds))
-strides-le s (d ∷ ds) (suc i) =
-    subst (λ (k : ℕ). at (strides (s * suc d) ds) i ≤ k) (mul_assoc s (suc d) (cells ds) ∙ ap (s *◌) (mul_comm (suc d) (cells ds)))
-    (strides-le (s * suc d) ds i)
-
--- so is every step
-pub steps-le : (ps qs fs : List ℕ) (i : ℕ) → at (lookups ps qs (strides 1 fs)) i ≤ cells fs
-unfolding tabulate
-steps-le ps qs fs = go (length ps) (at ps)
-  where
-    go : (n : ℕ) (p : ℕ → ℕ) (i : ℕ) → at (tabulate n (λ i. lookup (p i) qs (strides 1 fs))) i ≤ cells fs
-    go zero p i = zero-le
-    go (suc n) p zero = lookup-le (p 0) (cells fs) qs (strides 1 fs) (λ k. subst (λ (b : ℕ). at (strides 1 fs) k ≤ b) (one-mul (cells fs)) (strides-le 1 fs k))
-    go (suc n) p (suc i) = go n (λ i. p (suc i)) i

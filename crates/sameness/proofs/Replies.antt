@@ -1,14 +1,14 @@
 -- What the call answers: a form that is turned down, or the test; and what is lent on for two forms that pass.
 use mathlib.Core.Path.{◌≡◌, refl, sym, ◌∙◌, ap, ap₂}
-use mathlib.Core.Bool.{Bool, false, ◌&&◌}
+use mathlib.Core.Bool.{Bool, true, false, ◌&&◌}
 use mathlib.Core.List.{List}
 use Prim.Native.Nat.{ℕ, zero, suc, ◌≤◌}
 use lib.Dec.{eqb}
-use lib.ListN.{length, take, replicate, length-replicate}
+use lib.ListN.{length, length-replicate}
 use borrow.Author.Tests.{eq-eqb}
 use Rattle.meaning.specs.Sameness.{Form, matched, same_forms}
 use Rattle.meaning.specs.Replies.{Reply, accepted, refused}
-use Rattle.meaning.specs.Settings.{table_limit, fits_width, cube, call_number, first}
+use Rattle.meaning.specs.Settings.{table_limit, fits_width, call_number, first}
 use Rattle.meaning.specs.Calls.{reply, truth, form_number, same_reply}
 use Rattle.theory.specs.Ranges.{width_high}
 use Rattle.theory.specs.Scattered.{Places, places_of}
@@ -18,11 +18,22 @@ use Rattle.demand3.specs.Promises.{Compared}
 use Rattle.demand3.proofs.Comparisons.{form-iff, compared}
 use Rattle.demand3.specs.Also.{also}
 use Rattle.answers.specs.declared.Refusal.{Refusal}
-use Rattle.answers.specs.Said.{code}
+use Rattle.answers.specs.Said.{code, said_number, said_truth}
+use Rattle.std.specs.Prelude.{Result, Ok, Err, ⊤}
 use Rattle.answers.specs.Laws.{reply-code, first_code}
-use Rattle.settings.specs.Causes.{passes, take-cube}
-use Rattle.settings.specs.Forms.{cube_form}
+use Rattle.settings.specs.Causes.{passes}
+use Rattle.settings.specs.Forms.{degrees_of, form_of}
+use Rattle.settings.specs.declared.Settings.{Settings}
 use Rattle.sameness.specs.Lent.{Boxed}
+
+-- ---- what a check said
+
+module _ (f : Form) {answer : Result ⊤ Refusal} (says : said_number answer ≡ form_number f) where
+  pub form_passes : {u : ⊤} → answer ≡ Ok u → ◌≡◌ {A = ℕ} 0 (form_number f)
+  form_passes e = sym (ap said_number e) ∙ says
+
+  pub form_turned : {r : Refusal} → answer ≡ Err r → code r ≡ form_number f
+  form_turned e = sym (ap said_number e) ∙ says
 
 -- ---- the reply, and what it promises
 
@@ -57,43 +68,46 @@ module _ (f g : Form) (each : length f.degrees ≡ length f.support) (each' : le
       widths_differ t e = same_accepted false (ap₂ (λ (a b : Bool). a && b && matched f g && matched g f) (eq-eqb _ _ t) e)
 
       -- they do not: the test both ways decides
-      pub both_decide : f.total ≡ g.total → f.width ≡ g.width → {b : Bool} → b ≡ (matched f g && matched g f) → SameSaid f g (accepted (truth b))
+      pub both_decide : f.total ≡ g.total → f.width ≡ g.width → {b : Bool} → b ≡ (matched f g && matched g f) → SameSaid f g (said_truth (Ok b))
       unfolding same_forms
       both_decide t w {b} e =
-          same_accepted b
-          (ap₂ (λ (x y : Bool). x && y && matched f g && matched g f) (eq-eqb _ _ t) (eq-eqb _ _ w) ∙ sym e)
+          as_said b
+          (same_accepted b
+          (ap₂ (λ (x y : Bool). x && y && matched f g && matched g f) (eq-eqb _ _ t) (eq-eqb _ _ w) ∙ sym e))
+        where
+          as_said : (b : Bool) → SameSaid f g (accepted (truth b)) → SameSaid f g (said_truth (Ok b))
+          as_said true s = s
+          as_said false s = s
 
 -- ---- what is lent on
 
 -- a form with one degree has it for each variable
-pub cube_each : (support : List ℕ) (d : ℕ) → length (cube support d) ≡ length support
-cube_each support d = length-replicate (length support) d
+pub cube_each : (s : Settings) → length (degrees_of s) ≡ length s.support.now
+cube_each s = length-replicate (length s.support.now) s.max_degree
 
-module _ (total w : ℕ) (support : List ℕ) (d : ℕ) (c : List ℕ) (pass : ◌≡◌ {A = ℕ} 0 (form_number (cube_form total w support d c))) where
-  sound : FormPasses (cube_form total w support d c)
-  sound = (form-iff (cube_form total w support d c)).0 (sym pass)
+module _ (s : Settings) (c : List ℕ) (pass : ◌≡◌ {A = ℕ} 0 (form_number (form_of s c))) where
+  sound : FormPasses (form_of s c)
+  sound = (form-iff (form_of s c)).0 (sym pass)
 
   -- at most twenty variables
-  pub short : length support ≤ 20
+  pub short : length s.support.now ≤ 20
   unfolding call_number
-  short = (passes table_limit false total (fits_width w) support (cube support d) (settings_pass _ _ (sym pass))).short
+  short = (passes table_limit false s.total (fits_width s.bitwidth) s.support.now (degrees_of s) (settings_pass _ _ (sym pass))).short
     where
       settings_pass : (n k : ℕ) → first n k ≡ 0 → n ≡ 0
       settings_pass zero k e = refl
       settings_pass (suc n) k e = e
 
-  pub places : Places total support
-  places = places_of total support sound.indices sound.distinct
+  pub places : Places s.total s.support.now
+  places = places_of s.total s.support.now sound.indices sound.distinct
 
-  pub width : w ≤ 64
-  width = width_high w sound.width
+  pub width : s.bitwidth ≤ 64
+  width = width_high s.bitwidth sound.width
 
-  -- the degrees that are lent, twenty cut to the variables
-  pub cut : take (length support) (replicate 20 d) ≡ cube support d
-  cut = take-cube support d short
-
-  pub boxed : Boxed support (take (length support) (replicate 20 d)) c
-  boxed = rw cut (record { some = sound.variable; few = short; each = cube_each support d; whole = sound.lengths.0; size = sound.size })
+  -- with the degrees of the settings
+  pub boxed : {ds : List ℕ} → ds ≡ degrees_of s → Boxed s.support.now ds c
+  boxed e =
+      rw e (record { some = sound.variable; few = short; each = cube_each s; whole = sound.lengths.0; size = sound.size })
 
 -- the test of the boxes, in the words of the forms
 pub as_forms : (n w : ℕ) (ps c qs d : List ℕ) {n' w' : ℕ} {ds ds' fs fs' : List ℕ} → n ≡ n' → w ≡ w' → ds ≡ ds' → fs ≡ fs'

@@ -3,13 +3,14 @@
 use mathlib.Core.Path.{◌≡◌, refl, sym, ◌∙◌, ap, ap₂}
 use mathlib.Core.Bool.{Bool, true}
 use mathlib.Core.List.{List, [], ◌∷◌, ◌++◌}
-use Prim.Native.Nat.{ℕ, zero, suc, ◌+◌, ◌*◌, ◌-◌, ◌%◌, ◌^◌, ◌≤◌, ◌<◌, zero-le}
-use native.Mathlib.Nat.{suc-ne-zero, suc_inj, mod-one, mod-eq_of_lt, add_assoc, add_comm, add-zero, le_refl, le_trans}
+use Prim.Native.Nat.{ℕ, suc, ◌+◌, ◌*◌, ◌-◌, ◌%◌, ◌^◌, ◌≤◌, ◌<◌}
+use native.Mathlib.Nat.{suc-ne-zero, suc_inj, mod-one, mod-eq_of_lt, add_assoc, add_comm, add-zero}
 use native.Mathlib.Omega.{arith}
 use borrow.Author.Tests.{eq-eqb}
 use lib.Dec.{eqb}
 use lib.Bits.{bit_and, and_mask}
-use lib.ListN.{length, take}
+use lib.ListN.{length, take, get_or, length-map}
+use Rattle.std.proofs.lemmas.List.{get_or-map, take-map}
 use Rattle.meaning.specs.Tables.{at}
 use Rattle.meaning.specs.Factorials.{factorial, twos}
 use Rattle.meaning.specs.Boxes.{cells, digits}
@@ -19,10 +20,13 @@ use Rattle.theory.specs.Boxes.{length_digits}
 use Rattle.theory.specs.Every.{true-iff, every-iff, every_cong}
 use Rattle.theory.specs.LastVariable.{others, final, others-final, length-others, digits-snoc}
 use Rattle.theory.specs.Parts.{part, part-entry}
+use Rattle.box_rows.specs.Lines.{LineMask}
 use Rattle.box_rows.specs.Walks.{walk_exponent, walk_part}
 use Rattle.box_rows.specs.Tested.{Tested, tested_fits, tested_bound}
 use Rattle.sameness.specs.Places.{far, way_of, place_of, is_match}
 use Rattle.sameness.specs.Lent.{Walkable}
+use Rattle.sameness.specs.Partners.{limits_of, steps_of}
+use Rattle.sameness.specs.declared.partner.Partner.{Partner}
 
 -- ---- lines
 
@@ -82,13 +86,6 @@ place_of-snoc (y ∷ ls) ss [] l s e k j = absurd (suc-ne-zero (length ls) k)
 place_of-snoc (y ∷ ls) [] (x ∷ es) l s e k j = absurd (suc-ne-zero (length es) (sym j))
 place_of-snoc (y ∷ ls) (z ∷ ss) (x ∷ es) l s e k j =
     ap (way_of y z x +◌) (place_of-snoc ls ss es l s e (suc_inj k) (suc_inj j)) ∙ sym (add_assoc (way_of y z x) (place_of ls ss es) (way_of l s e))
-
--- an entry of a front part is that of the whole list, or 0
-at_take : (n : ℕ) (xs : List ℕ) (i : ℕ) → at (take n xs) i ≤ at xs i
-at_take zero xs i = zero-le
-at_take (suc n) [] i = zero-le
-at_take (suc n) (x ∷ xs) zero = le_refl x
-at_take (suc n) (x ∷ xs) (suc i) = at_take n xs i
 
 -- ---- the walk
 
@@ -154,7 +151,6 @@ module _ {w : ℕ} {ds c limits steps : List ℕ} {place : ℕ} (lent : Walkable
           size = omega (arith, r.walk.sized, tested_fits r h, lent.size);
           limited = length-cut-limits ∙ sym n;
           stepped = length-cut-steps ∙ sym n;
-          short = λ i. le_trans (at_take (length ds - 1) steps i) (lent.short i);
           few = omega (arith, r.bits, lent.few);
           low = omega (arith, lent.low, lent.some);
         }
@@ -169,3 +165,50 @@ module _ {w : ℕ} {ds c limits steps : List ℕ} {place : ℕ} (lent : Walkable
         (λ i b.
         let same = sym (tested_bound r h i b) in
         ap₂ eqb (ap₂ ◌%◌ (part-entry from (from + size) c i (omega arith)) same) (ap₂ ◌%◌ (ap (at other) (place-on i b)) same))
+
+-- ---- partners
+
+module _ (ps : List Partner) (i : ℕ) (d : Partner) (h : i < length ps) where
+  pub limit_at : at (limits_of ps) i ≡ (get_or ps i d).limit
+  limit_at = get_or-map (λ p. p.limit) ps i d 0 h
+
+  pub step_at : at (steps_of ps) i ≡ (get_or ps i d).step
+  step_at = get_or-map (λ p. p.step) ps i d 0 h
+
+-- as many as there are degrees
+pub length-partners : {w place : ℕ} {ds c : List ℕ} (ps : List Partner) → Walkable ds c (limits_of ps) (steps_of ps) w place → length ps ≡ length ds
+length-partners ps lent = sym (length-map ps (λ p. p.limit)) ∙ lent.limited
+
+-- the test of entry i of a line, as it is made under the mask
+pub line_told : (w : ℕ) (c : List ℕ) (limit step : ℕ) (other : List ℕ) (place i mask there way : ℕ) → LineMask w i mask
+    → there ≡ at other (place + way) → way ≡ way_of limit step i
+    → line_match w c limit step other place i ≡ eqb (bit_and (at c i) mask) (bit_and there mask)
+line_told w c limit step other place i mask there way m f l =
+    let h = 2 ^ (w - twos (factorial i)) in
+    let found : there ≡ at other (place + way_of limit step i) = f ∙ ap (λ (k : ℕ). at other (place + k)) l in
+    sym (masked_match (at c i) there (w - twos (factorial i)) mask m ∙ ap (λ (x : ℕ). eqb (at c i % h) (x % h)) found)
+
+-- the tests of a line with its partner are those of the box
+pub match_line : (w : ℕ) (ds c : List ℕ) (ps : List Partner) (other : List ℕ) (place : ℕ) (d : Partner) → length ds ≡ 1
+    → Walkable ds c (limits_of ps) (steps_of ps) w place
+    → every (length c) (line_match w c (get_or ps 0 d).limit (get_or ps 0 d).step other place)
+    ≡ every (cells ds) (is_match w ds c (limits_of ps) (steps_of ps) other place)
+match_line w ds c ps other place d one lent =
+    let some : 0 < length ps = omega (arith, length-partners ps lent, one) in
+    ap₂ (λ (l s : ℕ). every (length c) (line_match w c l s other place)) (sym (limit_at ps 0 d some)) (sym (step_at ps 0 d some))
+    ∙ match_one w ds c (limits_of ps) (steps_of ps) other place one lent.limited lent.stepped lent.whole
+
+-- the tests of a sub-box, with the partners of the other variables and its own place, are those of its part
+pub matching_turn : {w : ℕ} {ds c : List ℕ} {place : ℕ} (ps : List Partner) (lent : Walkable ds c (limits_of ps) (steps_of ps) w place) (other : List ℕ)
+    {size left e from : ℕ} (r : Matching w ds c (limits_of ps) (steps_of ps) other place size left e from) (h : from < length c) (d : Partner) {b : Bool} {way : ℕ}
+    → way ≡ way_of (get_or ps (length ds - 1) d).limit (get_or ps (length ds - 1) d).step e
+    → b ≡ every (cells (others ds)) (is_match left (others ds) (part from (from + size) c) (limits_of (take (length ds - 1) ps)) (steps_of (take (length ds - 1) ps)) other (place + way))
+    → b ≡ every size (λ i. is_match w ds c (limits_of ps) (steps_of ps) other place (from + i))
+matching_turn {w} {ds} {c} {place} ps lent other {size} {left} {e} {from} r h d {b} {way} q t =
+    let last : length ds - 1 < length ps = omega (arith, length-partners ps lent, lent.some) in
+    let there : place + way ≡ place + way_of (at (limits_of ps) (length ds - 1)) (at (steps_of ps) (length ds - 1)) e =
+    ap (place +◌) (q ∙ ap₂ (λ (l s : ℕ). way_of l s e) (sym (limit_at ps (length ds - 1) d last)) (sym (step_at ps (length ds - 1) d last))) in
+    matching_part lent other r h there
+    (t
+    ∙ ap₂ (λ (ls ss : List ℕ). every (cells (others ds)) (is_match left (others ds) (part from (from + size) c) ls ss other (place + way)))
+    (sym (take-map (λ p. p.limit) (length ds - 1) ps)) (sym (take-map (λ p. p.step) (length ds - 1) ps)))

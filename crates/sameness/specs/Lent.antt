@@ -1,6 +1,5 @@
 -- What is lent to a walk.
 use Rattle.std.specs.Prelude.{◌≡◌, List, ℕ, ◌+◌, ◌*◌, ◌≤◌, ◌<◌, length}
-use Rattle.meaning.specs.Tables.{at}
 use Rattle.meaning.specs.Boxes.{cells}
 use Rattle.sameness.specs.Places.{far}
 
@@ -19,6 +18,5 @@ pub record Walkable (ds c limits steps : List ℕ) (bits place : ℕ) : Type 0 w
   pub size : length c ≤ 65536
   pub limited : length limits ≡ length ds
   pub stepped : length steps ≡ length ds
-  pub short : (i : ℕ) → at steps i ≤ 65536
   pub few : bits ≤ 64
   pub low : place + length ds * far ≤ 20 * far

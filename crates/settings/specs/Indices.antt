@@ -1,6 +1,7 @@
 -- Lists of indices. A test of the entries is carried along the part of the list that is still to be looked at, so that a loop over the entries keeps one
 -- equation; repeated entries are found by marks. Distinct indices below n are at most n, since each number below n stands at most once among them.
 use Rattle.std.specs.Prelude.{◌≡◌, ◌||◌, cond, List, [], ◌∷◌, leb, set, replicate}
+use Rattle.std.specs.List.{list_any}
 use Rattle.std.proofs.Math.Path.{refl, sym, ap}
 use Rattle.std.proofs.Common.{◌∙◌, ap₂, true≢false, le_of_suc-le-suc, not-suc-le-zero, add-one, arith, drop_of_length-le, drop-cons, get_or-set_same}
 use Rattle.std.proofs.Math.Bool.{Bool, true, false, or_assoc, or-true, or-false}
@@ -22,6 +23,12 @@ or_false-left false b e = refl
 or_false_right : (a b : Bool) → (a || b) ≡ false → b ≡ false
 or_false_right true b e = absurd (true≢false e)
 or_false_right false b e = e
+
+-- whether some entry passes, by the library's word
+pub some-any : (p : ℕ → Bool) (xs : List ℕ) → some p xs ≡ list_any p xs
+unfolding some
+some-any p [] = refl
+some-any p (x ∷ xs) = ap (p x ||◌) (some-any p xs)
 
 -- ---- tests of the entries from a place on
 

@@ -3,3 +3,4 @@ pub mod Indices
 pub mod Causes
 pub mod Settled
 pub mod Forms
+pub mod Taken

@@ -1,12 +1,11 @@
 -- Calls, by what the check of their settings said: what it means for the number, the reply and a lent table.
-use Rattle.std.specs.Prelude.{◌≡◌, Bool, true, false, cond, List, ℕ}
+use Rattle.std.specs.Prelude.{◌≡◌, Bool, true, false, cond, List, ℕ, Result, Ok, Err}
 use Rattle.std.proofs.Common.{sym, ◌∙◌, ap}
 use Rattle.meaning.specs.Replies.{accepted, refused}
 use Rattle.meaning.specs.Boxes.{cells}
 use Rattle.meaning.specs.Settings.{first, settings_number, call_number}
 use Rattle.meaning.specs.Calls.{reply, left}
 use Rattle.answers.specs.declared.Refusal.{Refusal}
-use Rattle.answers.specs.declared.Number.{Number}
 use Rattle.answers.specs.Said.{code, said}
 use Rattle.answers.specs.Laws.{number-accepted, value-accepted, number-refused, reply-code, first_code, left-code}
 
@@ -32,9 +31,9 @@ unfolding call_number
 unsettled_call {r = r} s exact = first_code r (cond exact 0 9) s.refuses
 
 -- from the answer of a check
-module _ (strict : Bool) (total : ℕ) (fits : Bool) (support ds : List ℕ) {answer : Number}
+module _ (strict : Bool) (total : ℕ) (fits : Bool) (support ds : List ℕ) {answer : Result ℕ Refusal}
     (says : said answer ≡ reply (settings_number strict total fits support ds) (cells ds)) where
-  pub settled : {count : ℕ} → answer ≡ Number.Value count → Settled strict total fits support ds count
+  pub settled : {count : ℕ} → answer ≡ Ok count → Settled strict total fits support ds count
   settled e =
       let told = sym (ap said e) ∙ says in
       record {
@@ -42,7 +41,7 @@ module _ (strict : Bool) (total : ℕ) (fits : Bool) (support ds : List ℕ) {an
         counted = value-accepted (settings_number strict total fits support ds) (cells ds) told;
       }
 
-  pub unsettled : {r : Refusal} → answer ≡ Number.Refused r → Unsettled strict total fits support ds r
+  pub unsettled : {r : Refusal} → answer ≡ Err r → Unsettled strict total fits support ds r
   unsettled {r} e =
       record { refuses = number-refused r (settings_number strict total fits support ds) (cells ds) (sym (ap said e) ∙ says) }
 

@@ -4,21 +4,14 @@ ghost use Rattle.meaning.specs.Settings.{some, repeated};
 ghost use Rattle.answers.specs.Said.{said_number};
 ghost use Rattle.settings.specs.Causes.{support_number};
 
-use answers::{Outcome, Refusal};
+use answers::Refusal;
 
 // Whether some index is not below the number of variables.
 fn index_past(support: &[u64], total: u32) -> bool
     ensures { result ≡ some (leb total) support.now }
 {
     let limit = total as u64;
-    let mut i = 0;
-    while i < support.len() {
-        if limit <= support[i] {
-            return true;
-        }
-        i += 1;
-    }
-    false
+    support.iter().any(|index| limit <= *index)
 }
 
 // Whether some index stands twice, of indices below the number of variables. It ends at the first that was seen before.
@@ -27,49 +20,42 @@ fn index_twice(support: &[u64], total: u32) -> bool
     ensures { result ≡ repeated support.now }
 {
     let mut seen = [false; 20];
-    let mut i = 0;
-    while i < support.len() {
-        let index = support[i] as usize;
-        if seen[index] {
+    for index in support {
+        let place = *index as usize;
+        if seen[place] {
             return true;
         }
-        seen[index] = true;
-        i += 1;
+        seen[place] = true;
     }
     false
 }
 
 // The first cause among 1, 2, 3, 4, 5 and 7. `zero` says that a degree is 0 where none may be.
-pub(crate) fn check_support(support: &[u64], total: u32, fits: bool, zero: bool) -> Outcome
+pub(crate) fn check_support(
+    support: &[u64],
+    total: u32,
+    fits: bool,
+    zero: bool,
+) -> Result<(), Refusal>
     ensures { said_number result ≡ support_number total fits zero support.now }
 {
     if support.len() == 0 {
-        return Outcome::Refused(Refusal::EmptySupport);
+        return Err(Refusal::EmptySupport);
     }
     if 20 < total {
-        return Outcome::Refused(Refusal::TooManyVariables);
+        return Err(Refusal::TooManyVariables);
     }
     if !fits {
-        return Outcome::Refused(Refusal::WidthOutOfRange);
+        return Err(Refusal::WidthOutOfRange);
     }
     if zero {
-        return Outcome::Refused(Refusal::DegreeZero);
+        return Err(Refusal::DegreeZero);
     }
     if index_past(support, total) {
-        return Outcome::Refused(Refusal::SupportIndex);
+        return Err(Refusal::SupportIndex);
     }
     if index_twice(support, total) {
-        return Outcome::Refused(Refusal::RepeatedIndex);
+        return Err(Refusal::RepeatedIndex);
     }
-    Outcome::Accepted
-}
-
-// Whether the degree is 0 where it may not be.
-pub(crate) fn zero_degree(strict: bool, max_degree: u8) -> bool
-    ensures { result ≡ (strict && eqb 0 max_degree) }
-{
-    if strict {
-        return 0 == max_degree;
-    }
-    false
+    Ok(())
 }

@@ -1,5 +1,9 @@
 -- What the answer of the degree cap says of the width, and how large the tables are.
 use mathlib.Core.Path.{◌≡◌, refl, sym, ◌∙◌, ap}
+use Rattle.std.specs.Prelude.{⊤, Result, Ok, Err, eqb}
+use Rattle.std.specs.Result.{is_err}
+use Rattle.std.proofs.Common.{true≢false}
+use borrow.Author.Tests.{ne_eqb}
 use mathlib.Core.Bool.{Bool, true, false, cond}
 use Prim.Native.Nat.{ℕ, pred, ◌*◌, ◌≤◌}
 use native.Mathlib.Nat.{suc-ne-zero, mul-le-mul_right}
@@ -11,8 +15,7 @@ use Rattle.meaning.specs.Settings.{fits_width}
 use Rattle.theory.specs.Ranges.{width_pos, width_high}
 use Rattle.theory.specs.DegreeCap.{two_le-degree_cap_of, degree_cap_of-le}
 use Rattle.answers.specs.declared.Refusal.{Refusal}
-use Rattle.answers.specs.declared.Number.{Number}
-use Rattle.answers.specs.Said.{code, said}
+use Rattle.answers.specs.Said.{code, said, said_number}
 use Rattle.answers.specs.Laws.{code-suc}
 
 -- the number of variables and the width pass, and `size` is the cap
@@ -22,7 +25,7 @@ pub record Capped (n w size : ℕ) : Type 0 where
   pub cap : size ≡ degree_cap_of w
 
 -- the cap's answer is a number: the width passes, and the number is the cap
-pub capped : {n : ℕ} (w : ℕ) {answer : Number} {size : ℕ} → n ≤ 20 → said answer ≡ cap_reply w → answer ≡ Number.Value size → Capped n w size
+pub capped : {n : ℕ} (w : ℕ) {answer : Result ℕ Refusal} {size : ℕ} → n ≤ 20 → said answer ≡ cap_reply w → answer ≡ Ok size → Capped n w size
 capped w {size = size} few says e =
     let r = both (fits_width w) (sym (ap said e) ∙ says) in
     record { few = few; fits = r.0; cap = r.1 }
@@ -32,7 +35,7 @@ capped w {size = size} few says e =
     both false q = absurd (suc-ne-zero 10 (sym (ap (λ (r : Reply). r.number) q)))
 
 -- it is a refusal: the width does not pass
-pub uncapped : (w : ℕ) {answer : Number} {r : Refusal} → said answer ≡ cap_reply w → answer ≡ Number.Refused r → fits_width w ≡ false
+pub uncapped : (w : ℕ) {answer : Result ℕ Refusal} {r : Refusal} → said answer ≡ cap_reply w → answer ≡ Err r → fits_width w ≡ false
 uncapped w {r = r} says e = no-width (fits_width w) (sym (ap said e) ∙ says)
   where
     no-width : (b : Bool) → refused (code r) ≡ cond b (accepted (degree_cap_of w)) (refused 11) → b ≡ false
@@ -51,3 +54,12 @@ module _ {n w size : ℕ} (c : Capped n w size) where
 
   pub capped_count : n * size ≤ 1320
   capped_count = omega (arith, mul-le-mul_right size c.few, capped_short)
+
+-- the number of an answer that is a refusal is not 0, and that of any other is
+pub refused_number : (answer : Result ⊤ Refusal) → is_err answer ≡ true → eqb (said_number answer) 0 ≡ false
+refused_number (Ok _) e = absurd (true≢false (sym e))
+refused_number (Err r) e = ne_eqb (code r) 0 (λ q. suc-ne-zero (pred (code r)) (sym (code-suc r) ∙ q))
+
+pub accepted_number : (answer : Result ⊤ Refusal) → is_err answer ≡ false → eqb (said_number answer) 0 ≡ true
+accepted_number (Ok _) e = refl
+accepted_number (Err r) e = absurd (true≢false e)

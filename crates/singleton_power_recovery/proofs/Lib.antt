@@ -1,2 +1,3 @@
--- The one module: what the degree cap says of width and sizes.
+-- What the degree cap says of width and sizes (Caps), and the lines as chunks of the values (Chunks).
 pub mod Caps
+pub mod Chunks

@@ -2,7 +2,7 @@
 -- after the other, and what is kept is that those before a place are accepted and that the output below the place is the answer's.
 use Rattle.std.specs.Prelude.{◌≡◌, refl, true, ◌&&◌, ◌⊎◌, T, length, set, take, drop}
 use Rattle.std.proofs.Math.Path.{sym, ap}
-use Rattle.std.proofs.Common.{◌∙◌, ap₂, subst, true≢false, inl, inr, not-suc-le-zero, eq-or-lt_of_le, le_of_suc-le-suc, suc-ne-zero, suc-mul, zero-mul, mul-le-mul_right, lt_of_mul-lt-mul_right, arith, length-set, get_or-set_same, get_or-set_other}
+use Rattle.std.proofs.Common.{◌∙◌, ap₂, subst, inl, inr, not-suc-le-zero, eq-or-lt_of_le, le_of_suc-le-suc, suc-ne-zero, suc-mul, zero-mul, mul-le-mul_right, lt_of_mul-lt-mul_right, arith, length-set, get_or-set_same, get_or-set_other}
 use Rattle.std.proofs.Math.Bool.{Bool, false, cond}
 use mathlib.Core.List.{List, [], ◌∷◌}
 use Prim.Native.Nat.{ℕ, zero, suc, pred, ◌+◌, ◌*◌, ◌-◌, ◌/◌, ◌%◌, ◌≤◌, ◌<◌}
@@ -16,16 +16,28 @@ use Rattle.meaning.specs.Recovery.{every, accepts, answer}
 use Rattle.meaning.specs.Settings.{fits_width, some, repeated, settings_number, limited_number, call_number, first}
 use Rattle.meaning.specs.Calls.{left, in_out_number, recovery_number, recovery_left}
 use Rattle.meaning.specs.Singletons.{one_line, line, singleton_accepts, singleton_answer, singleton_settings, singleton_number, singleton_left}
+use Rattle.answers.specs.declared.Refusal.{Refusal}
+use Rattle.answers.specs.Said.{code}
+use Rattle.answers.specs.Laws.{code-suc}
 use Rattle.theory.specs.Tables.{Filled, filled_start, eq-tabulate, length-tabulate}
 use Rattle.theory.specs.Parts.{part, put, length_part, filled_part}
 use Rattle.theory.specs.Every.{every-iff}
 
+-- a number that is 0 where b holds, else 6
+is_zero : (b : Bool) → ◌≡◌ {A = ℕ} 0 (cond b 0 6) → b ≡ true
+is_zero true q = refl
+is_zero false q = absurd (omega arith)
+
+not-zero : {k : ℕ} (b : Bool) → suc k ≡ cond b 0 6 → b ≡ false
+not-zero true q = absurd (omega arith)
+not-zero false q = refl
+
 -- ---- one line
 
--- r says whether the line v is accepted; where it is, t is its answer with 0 in place of the constant
-pub record Single (w : ℕ) (v t : List ℕ) (r : Bool) : Type 0 where
-  pub says : r ≡ accepts w (one_line (length v)) v
-  pub leaves : r ≡ true → t ≡ set (answer w (one_line (length v)) v) 0 0
+-- the number n says whether the line v is accepted; where it is, t is its answer with 0 in place of the constant
+pub record Single (w : ℕ) (v t : List ℕ) (n : ℕ) : Type 0 where
+  pub says : n ≡ cond (accepts w (one_line (length v)) v) 0 6
+  pub leaves : n ≡ 0 → t ≡ set (answer w (one_line (length v)) v) 0 0
 
 pub cells-line : (size : ℕ) → 0 < size → cells (one_line size) ≡ size
 unfolding cells
@@ -72,10 +84,10 @@ module _ (w : ℕ) (v out : List ℕ) (fits : fits_width w ≡ true) (long : 2 �
       ap (λ (ds : List ℕ). recovery_number 1 w (0 ∷ []) ds v out) degree_eq ∙ line-number w (length v) fits long short v out refl room
 
   pub single_accepted : {t : List ℕ} → 0 ≡ recovery_number 1 w (0 ∷ []) ((length v - 1) ∷ []) v out
-      → t ≡ recovery_left 1 w (0 ∷ []) ((length v - 1) ∷ []) v out → Single w v (set t 0 0) true
+      → t ≡ recovery_left 1 w (0 ∷ []) ((length v - 1) ∷ []) v out → Single w v (set t 0 0) 0
   single_accepted {t} e l =
       record {
-        says = sym yes-accepts;
+        says = e ∙ decides;
         leaves = λ q. ap (λ (k : List ℕ). set k 0 0)
             (l
             ∙ ap (λ (ds : List ℕ). recovery_left 1 w (0 ∷ []) ds v out) degree_eq
@@ -83,20 +95,11 @@ module _ (w : ℕ) (v out : List ℕ) (fits : fits_width w ≡ true) (long : 2 �
             ∙ ap (λ (b : Bool). cond b (answer w (one_line (length v)) v) (tabulate (cells (one_line (length v))) (λ n. 0))) yes-accepts);
       }
     where
-      is_zero : (b : Bool) → ◌≡◌ {A = ℕ} 0 (cond b 0 6) → b ≡ true
-      is_zero true q = refl
-      is_zero false q = absurd (omega arith)
-
       yes-accepts : accepts w (one_line (length v)) v ≡ true
       yes-accepts = is_zero _ (e ∙ decides)
 
-  pub single_refused : {t : List ℕ} (k : ℕ) → suc k ≡ recovery_number 1 w (0 ∷ []) ((length v - 1) ∷ []) v out → Single w v t false
-  single_refused k e =
-      record { says = sym (not-zero _ (e ∙ decides)); leaves = λ q. absurd (true≢false (sym q)) }
-    where
-      not-zero : (b : Bool) → suc k ≡ cond b 0 6 → b ≡ false
-      not-zero true q = absurd (omega arith)
-      not-zero false q = refl
+  pub single_refused : {t : List ℕ} (r : Refusal) → code r ≡ recovery_number 1 w (0 ∷ []) ((length v - 1) ∷ []) v out → Single w v t (code r)
+  single_refused r e = record { says = e ∙ decides; leaves = λ q. absurd (suc-ne-zero (pred (code r)) (sym (code-suc r) ∙ q)) }
 
 -- ---- the lines
 
@@ -111,10 +114,10 @@ pub record Lines (w size : ℕ) (v t₀ t : List ℕ) (from : ℕ) : Type 0 wher
   pub passed : (i : ℕ) → i < count → T (accepts w (one_line size) (line size v i))
   pub filled : Filled (single_at w size v) t₀ t from
 
--- r says whether each of the n lines of v is accepted; where they are, t is their answers
-pub record Singles (w size n : ℕ) (v t : List ℕ) (r : Bool) : Type 0 where
-  pub says : r ≡ singleton_accepts w size n v
-  pub leaves : r ≡ true → t ≡ singleton_answer w size n v
+-- the number r says whether each of the n lines of v is accepted; where they are, t is their answers
+pub record Singles (w size n : ℕ) (v t : List ℕ) (r : ℕ) : Type 0 where
+  pub says : r ≡ cond (singleton_accepts w size n v) 0 6
+  pub leaves : r ≡ 0 → t ≡ singleton_answer w size n v
 
 -- a list with 0 at place 0
 at-set-zero : (a : List ℕ) (j : ℕ) → 0 < length a → at (set a 0 0) j ≡ cond (eqb j 0) 0 (at a j)
@@ -148,7 +151,7 @@ module _ (w size : ℕ) (v t₀ : List ℕ) where
 
     module _ (ys : List ℕ) where
       -- one line more is accepted
-      pub lines_step : length t ≡ length v → Single w (part from (from + size) v) ys true → Lines w size v t₀ (put from (from + size) t ys) (from + size)
+      pub lines_step : length t ≡ length v → Single w (part from (from + size) v) ys 0 → Lines w size v t₀ (put from (from + size) t ys) (from + size)
       unfolding answer
       lines_step same s =
           record {
@@ -171,7 +174,7 @@ module _ (w size : ℕ) (v t₀ : List ℕ) where
           ys-long = ap length ys-eq ∙ length-set a 0 0 ∙ a-long
 
           passed : (i : ℕ) → (i ≡ r.count) ⊎ (i < r.count) → T (accepts w (one_line size) (line size v i))
-          passed i (inl e) = rw e (subst (λ (b : Bool). T b) (s.says ∙ next_accepts) tt)
+          passed i (inl e) = rw e (subst (λ (b : Bool). T b) (sym (is_zero _ s.says) ∙ next_accepts) tt)
           passed i (inr h) = r.passed i h
 
           entry : (i : ℕ) → i < from + size - from → at ys i ≡ single_at w size v (from + i)
@@ -184,11 +187,17 @@ module _ (w size : ℕ) (v t₀ : List ℕ) where
               ∙ ap₂ (λ (q k : ℕ). cond (eqb k 0) 0 (at (answer w (one_line size) (line size v q)) k)) (sym d) (sym m)
 
       -- a line is not accepted
-      pub lines_fail : {t' : List ℕ} {n : ℕ} → length v ≡ n * size → Single w (part from (from + size) v) ys false → Singles w size n v t' false
+      pub lines_fail : {t' : List ℕ} {n : ℕ} → length v ≡ n * size → (r : Refusal) → Single w (part from (from + size) v) ys (code r) → Singles w size n v t' (code r)
       unfolding singleton_accepts
-      lines_fail {t'} {n} whole s =
-          record { says = sym (not-all (every n p) refl); leaves = λ e. absurd (true≢false (sym e)) }
+      lines_fail {t'} {n} whole r' s =
+          record {
+            says = s.says ∙ ap (λ (b : Bool). cond b 0 6) (no ∙ sym (not-all (every n p) refl));
+            leaves = λ e. absurd (suc-ne-zero (pred (code r')) (sym (code-suc r') ∙ e));
+          }
         where
+          no : accepts w (one_line (length (part from (from + size) v))) (part from (from + size) v) ≡ false
+          no = not-zero _ (sym (code-suc r') ∙ s.says)
+
           p : ℕ → Bool
           p i = accepts w (one_line size) (line size v i)
 
@@ -197,16 +206,16 @@ module _ (w size : ℕ) (v t₀ : List ℕ) where
 
           not-all : (b : Bool) → every n p ≡ b → b ≡ false
           not-all true e =
-              absurd (subst (λ (b : Bool). T b) (sym (s.says ∙ next_accepts)) ((every-iff n p).0 (subst (λ (b : Bool). T b) (sym e) tt) r.count below))
+              absurd (subst (λ (b : Bool). T b) (sym next_accepts ∙ no) ((every-iff n p).0 (subst (λ (b : Bool). T b) (sym e) tt) r.count below))
           not-all false e = refl
 
   -- no line is left
   pub lines-done : (t : List ℕ) (from n : ℕ) → Lines w size v t₀ t from → length v - from < size → length v ≡ n * size → length t₀ ≡ length v
-      → Singles w size n v t true
+      → Singles w size n v t 0
   unfolding singleton_accepts singleton_answer
   lines-done t from n r h whole same =
       record {
-        says = sym (all (every n p) refl);
+        says = sym (ap (λ (b : Bool). cond b 0 6) (all (every n p) refl));
         leaves = λ e. eq-tabulate t (n * size) (single_at w size v) (r.filled.same ∙ same ∙ whole) (λ i l. r.filled.below i (omega (arith, covered)));
       }
     where
@@ -267,22 +276,32 @@ module _ (n w : ℕ) (v out : List ℕ) where
 
   -- and where there is none
   module _ (none : singleton_settings n w v out ≡ 0) {size : ℕ} (cap : size ≡ degree_cap_of w) {t : List ℕ} where
-    pub singles_number : {r : Bool} → Singles w size n v t r → singleton_number n w v out ≡ cond r 0 6
+    pub singles_number : {r : ℕ} → Singles w size n v t r → singleton_number n w v out ≡ r
     unfolding singleton_number
     singles_number s =
         ap (λ (i : ℕ). first i (cond (singleton_accepts w (degree_cap_of w) n v) 0 6)) none
-        ∙ ap (λ (b : Bool). cond b 0 6) (ap (λ (k : ℕ). singleton_accepts w k n v) (sym cap) ∙ sym s.says)
+        ∙ ap (λ (k : ℕ). cond (singleton_accepts w k n v) 0 6) (sym cap)
+        ∙ sym s.says
 
-    pub singles_left : {r : Bool} → Singles w size n v t r → singleton_left n w v out ≡ cond r t (tabulate (n * size) (λ j. 0))
+    pub singles_left : {r : ℕ} → Singles w size n v t r → singleton_left n w v out ≡ cond (eqb r 0) t (tabulate (n * size) (λ j. 0))
     unfolding singleton_left
     singles_left {r} s =
         ap (λ (i : ℕ). left i (asked (degree_cap_of w)) out) none
         ∙ ap asked (sym cap)
-        ∙ go r s
+        ∙ go _ refl
       where
+        zeros : List ℕ
+        zeros = tabulate (n * size) (λ j. 0)
+
         asked : ℕ → List ℕ
         asked k = cond (singleton_accepts w k n v) (singleton_answer w k n v) (tabulate (n * k) (λ j. 0))
 
-        go : (r : Bool) → Singles w size n v t r → asked size ≡ cond r t (tabulate (n * size) (λ j. 0))
-        go true s = ap (λ (b : Bool). cond b (singleton_answer w size n v) (tabulate (n * size) (λ j. 0))) (sym s.says) ∙ sym (s.leaves refl)
-        go false s = ap (λ (b : Bool). cond b (singleton_answer w size n v) (tabulate (n * size) (λ j. 0))) (sym s.says)
+        go : (b : Bool) → singleton_accepts w size n v ≡ b → asked size ≡ cond (eqb r 0) t zeros
+        go true q =
+            let accepted : r ≡ 0 = s.says ∙ ap (λ (b : Bool). cond b 0 6) q in
+            ap (λ (b : Bool). cond b (singleton_answer w size n v) zeros) q
+            ∙ sym (s.leaves accepted)
+            ∙ sym (ap (λ (k : ℕ). cond (eqb k 0) t zeros) accepted)
+        go false q =
+            let refused : r ≡ 6 = s.says ∙ ap (λ (b : Bool). cond b 0 6) q in
+            ap (λ (b : Bool). cond b (singleton_answer w size n v) zeros) q ∙ sym (ap (λ (k : ℕ). cond (eqb k 0) t zeros) refused)

@@ -3,53 +3,41 @@
 #![tactic(auto)]
 
 ghost use Rattle.std.specs.Prelude.{◌≡◌, true, ℕ, ◌*◌, ◌≤◌, ◌<◌, length};
-ghost use Rattle.meaning.specs.Tables.{tabulate};
 ghost use Rattle.meaning.specs.Settings.{fits_width};
 ghost use Rattle.meaning.specs.Singletons.{singleton_number, singleton_left};
 ghost use Rattle.singleton_power_recovery.specs.VariableLines.{Single, Singles};
 ghost use Rattle.answers.specs.Said.{said_number};
 
-use answers::{Number, Outcome, Refusal};
+use answers::Refusal;
+use settings::Settings;
 
-// One variable: its coefficients, with 0 in place of the constant. The result says whether every difference passes.
-fn recover_line(values: &[u64], bitwidth: u32, out: &mut [u64]) -> bool
+// One variable: its coefficients, with 0 in place of the constant, or the refusal of a difference that does not pass.
+fn recover_line(values: &[u64], bitwidth: u32, out: &mut [u64]) -> Result<(), Refusal>
     requires { (fits_width bitwidth ≡ true) × (2 ≤ length values.now) × (length values.now ≤ 256) × (length out.old ≡ length values.now) }
-    ensures { Single bitwidth values.now out.new result }
+    ensures { Single bitwidth values.now out.new (said_number result) }
 {
-    let support = [0u64; 1];
-    let degree = (values.len() - 1) as u8;
-    let Outcome::Accepted = multivar_poly_recovery::recover_multivar_poly(
-        values, &support, 1, bitwidth, degree, out,
-    ) else {
-        return false;
+    let settings = Settings {
+        support: &[0],
+        total: 1,
+        bitwidth,
+        max_degree: (values.len() - 1) as u8,
     };
+    multivar_poly_recovery::recover_multivar_poly(values, &settings, out)?;
     out[0] = 0;
-    true
+    Ok(())
 }
 
-// Variable after variable, `size` cells each, up to the first that has a difference that does not pass. The result says whether there is none.
-fn recover_lines(values: &[u64], size: usize, bitwidth: u32, out: &mut [u64]) -> bool
+// Variable after variable, `size` cells each, up to the first that has a difference that does not pass.
+// The parts of `out` are cut by their places: no clause says what chunks that are lent to be written leave in a table.
+fn recover_lines(values: &[u64], size: usize, bitwidth: u32, out: &mut [u64]) -> Result<(), Refusal>
     requires { (fits_width bitwidth ≡ true) × (2 ≤ size) × (size ≤ 256) × (length out.old ≡ length values.now) }
-    ensures { (n : ℕ) → length values.now ≡ n * size → Singles bitwidth size n values.now out.new result }
+    ensures { (n : ℕ) → length values.now ≡ n * size → Singles bitwidth size n values.now out.new (said_number result) }
 {
-    let mut from = 0;
-    while size <= values.len() - from {
-        let end = from + size;
-        if !recover_line(&values[from..end], bitwidth, &mut out[from..end]) {
-            return false;
-        }
-        from = end;
+    for (i, line) in values.chunks_exact(size).enumerate() {
+        let from = i * size;
+        recover_line(line, bitwidth, &mut out[from..from + size])?;
     }
-    true
-}
-
-// The refusal for a difference that does not pass: the whole output is set to zero.
-fn not_divisible(out: &mut [u64]) -> Outcome
-    ensures says { said_number result ≡ 6 }
-    ensures leaves { out.new ≡ tabulate (length out.old) (λ n. 0) }
-{
-    tables::clear(out);
-    Outcome::Refused(Refusal::NotDivisible)
+    Ok(())
 }
 
 // Recovers, for each of `num_vars` variables with the others held at 0, the coefficients of its falling factorials of degrees 1 to degree_cap(bitwidth) - 1,
@@ -62,26 +50,24 @@ pub fn recover_singleton_powers(
     num_vars: u32,
     bitwidth: u32,
     out: &mut [u64],
-) -> Outcome
+) -> Result<(), Refusal>
     ensures says { said_number result ≡ singleton_number num_vars bitwidth values.now out.old }
     ensures leaves { out.new ≡ singleton_left num_vars bitwidth values.now out.old }
 {
     if 20 < num_vars {
-        return Outcome::Refused(Refusal::TooManyVariables);
+        return Err(Refusal::TooManyVariables);
     }
-    let Number::Value(cap) = math_utils::degree_cap(bitwidth) else {
-        return Outcome::Refused(Refusal::WidthOutOfRange);
+    let Ok(cap) = math_utils::degree_cap(bitwidth) else {
+        return Err(Refusal::WidthOutOfRange);
     };
     let size = cap as usize;
     let count = num_vars as usize * size;
-    if values.len() != count {
-        return Outcome::Refused(Refusal::WrongLength);
+    if values.len() != count || out.len() != count {
+        return Err(Refusal::WrongLength);
     }
-    if out.len() != count {
-        return Outcome::Refused(Refusal::WrongLength);
+    let outcome = recover_lines(values, size, bitwidth, out);
+    if outcome.is_err() {
+        tables::clear(out);
     }
-    if recover_lines(values, size, bitwidth, out) {
-        return Outcome::Accepted;
-    }
-    not_divisible(out)
+    outcome
 }

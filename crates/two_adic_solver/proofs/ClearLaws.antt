@@ -145,18 +145,11 @@ module _ (w t x : ℕ) (part : ℕ → ℕ) (c i : ℕ) (s : State) where
 -- ---- places in the matrix
 
 module _ (rows cols n : ℕ) (e : n ≡ rows * cols) where
-  -- an entry lies in the table, and so do k entries of its row from there on
-  pub place-lt : (i c : ℕ) → i < rows → c < cols → i * cols + c < n
-  place-lt i c l k = rw e (digits_lt l k)
-
   pub row_fits : (i c k : ℕ) → i < rows → c + k ≤ cols → i * cols + c + k ≤ n
   row_fits i c k l h =
       let row : suc i * cols ≡ i * cols + cols = omega (arith, suc-mul i cols) in
       let within : suc i * cols ≤ rows * cols = mul-le-mul_right cols l in
       omega arith
-
-  pub row_to_end : (i c : ℕ) → i < rows → c < cols → i * cols + c + (cols - c) ≤ n
-  row_to_end i c l k = row_fits i c (cols - c) l (omega arith)
 
 -- the multiplier that is computed is the definition's
 pub quotient-told : (w t P E x v m : ℕ) → m ≡ (x / 2 ^ t * v) % 2 ^ (w - t) → x ≡ E → v ≡ inverse (P / 2 ^ t) (w - t) → m ≡ quotient w t P E

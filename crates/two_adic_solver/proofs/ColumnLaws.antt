@@ -112,7 +112,6 @@ module _ (w rows cols c : ℕ) (mat : List ℕ) (used : List Bool) (p : ℕ) (e 
 
 -- the first c columns eliminated, whatever state the tables showed
 pub record Passed (w cols : ℕ) (mat₀ rhs₀ : List ℕ) (used₀ : List Bool) (piv₀ mat rhs : List ℕ) (used : List Bool) (piv : List ℕ) (c : ℕ) : Type 0 where
-  pub same_matrix : length mat ≡ length mat₀
   pub same_right : length rhs ≡ length rhs₀
   pub same_used : length used ≡ length used₀
   pub same_pivots : length piv ≡ length piv₀
@@ -124,18 +123,17 @@ module _ (w cols : ℕ) (mat₀ rhs₀ : List ℕ) (used₀ : List Bool) (piv₀
   pub passed_start : Passed w cols mat₀ rhs₀ used₀ piv₀ mat₀ rhs₀ used₀ piv₀ 0
   unfolding forward
   passed_start =
-      record { same_matrix = refl; same_right = refl; same_used = refl; same_pivots = refl; within = zero-le; so_far = λ s h. h }
+      record { same_right = refl; same_used = refl; same_pivots = refl; within = zero-le; so_far = λ s h. h }
 
   pub passed-step : (mat rhs : List ℕ) (used : List Bool) (piv mat' rhs' : List ℕ) (used' : List Bool) (piv' : List ℕ) (c : ℕ)
       → Passed w cols mat₀ rhs₀ used₀ piv₀ mat rhs used piv c → c < cols
-      → length mat' ≡ length mat → length rhs' ≡ length rhs → length used' ≡ length used → length piv' ≡ length piv
+      → length rhs' ≡ length rhs → length used' ≡ length used → length piv' ≡ length piv
       → ((s : State) → Shown w (length rhs) cols s c mat rhs used piv
       → Shown w (length rhs) cols (step w (length rhs) s c) (c + 1) mat' rhs' used' piv')
       → Passed w cols mat₀ rhs₀ used₀ piv₀ mat' rhs' used' piv' (c + 1)
   unfolding forward
-  passed-step mat rhs used piv mat' rhs' used' piv' c r l em er eu ep f =
+  passed-step mat rhs used piv mat' rhs' used' piv' c r l er eu ep f =
       record {
-        same_matrix = em ∙ r.same_matrix;
         same_right = er ∙ r.same_right;
         same_used = eu ∙ r.same_used;
         same_pivots = ep ∙ r.same_pivots;
@@ -146,10 +144,3 @@ module _ (w cols : ℕ) (mat₀ rhs₀ : List ℕ) (used₀ : List Bool) (piv₀
             (subst (λ (n : ℕ). (s : State) → Shown w n cols s c mat rhs used piv → Shown w n cols (step w n s c) (c + 1) mat' rhs' used' piv')
             r.same_right f (forward w (length rhs₀) s c) (r.so_far s h));
       }
-
-  pub passed_done : (mat rhs : List ℕ) (used : List Bool) (piv : List ℕ) (c : ℕ) → Passed w cols mat₀ rhs₀ used₀ piv₀ mat rhs used piv c → cols ≤ c
-      → (s : State) → Shown w (length rhs₀) cols s 0 mat₀ rhs₀ used₀ piv₀
-      → Shown w (length rhs₀) cols (forward w (length rhs₀) s cols) cols mat rhs used piv
-  passed_done mat rhs used piv c r l s h =
-      let e : c ≡ cols = omega (arith, r.within) in
-      subst (λ (n : ℕ). Shown w (length rhs₀) cols (forward w (length rhs₀) s n) n mat rhs used piv) e (r.so_far s h)

@@ -1,16 +1,16 @@
 -- A call of the four by four solver: the shape of the arrays that it is given, and its number and answer from those of the system that fits.
-use Rattle.std.proofs.Common.{◌≡◌, ℕ, zero, suc, ◌*◌, ◌/◌, ◌<◌, true, false, ◌||◌, eqb, ltb, List, [], ◌∷◌, length, get_or, replicate, sym, refl, ap, ◌∙◌, le_of_suc-le-suc, not-suc-le-zero, w64}
+use Rattle.std.proofs.Common.{Bool, cond, ◌≡◌, ℕ, zero, suc, ◌*◌, ◌/◌, ◌<◌, true, false, ◌||◌, eqb, ltb, List, [], ◌∷◌, length, get_or, replicate, sym, refl, ap, ◌∙◌, le_of_suc-le-suc, not-suc-le-zero, w64}
 use mir.Val.{Val}
 use denote.Shadow.{shadow}
 use denote.Laws.{Is}
 use denote.Plain.{UInt}
 use denote.Array.{Array, each}
+use Rattle.meaning.specs.Tables.{tabulate}
 use Rattle.meaning.specs.Elimination.{joined, fixed_number, fixed_answer}
 use Rattle.meaning.specs.Settings.{fits_width}
-use Rattle.two_adic_solver.specs.Fixed.{Square}
+use Rattle.two_adic_solver.specs.Fixed.{Square, joined_length}
 use Rattle.two_adic_solver.specs.Solved.{Finished}
 use Rattle.two_adic_solver.proofs.SolverLaws.{refused_width, fitting_call}
-use Rattle.two_adic_solver.proofs.FixedLaws.{joined_length}
 
 -- ---- arrays by value have the shape of their types
 
@@ -47,3 +47,15 @@ module _ (w : ℕ) (m : List (List ℕ)) (r : List ℕ) where
         (ap (λ (n : ℕ). ltb 65536 n || ltb 65536 4) l) refl (ap (λ (n : ℕ). eqb (n / 4 * 4) n) l) (e ∙ sym (ap (◌/ 4) l)) refl
         n mat rhs x (k.shows.matrix_length ∙ ap (◌* 4) e ∙ sym l) k in
         (q.0, q.3)
+
+    -- a refusal comes with zeros
+    zeros : (b : Bool) (f : ℕ → ℕ) (x : List ℕ) → (b ≡ true → ⊥) → x ≡ tabulate 4 (λ c. cond b (f c) 0) → x ≡ replicate 4 0
+    unfolding tabulate
+    zeros true f x ne e = absurd (ne refl)
+    zeros false f x ne e = e
+
+    pub fixed_refused : fits_width w ≡ true → (n : ℕ) (mat rhs x : List ℕ) → Finished w 4 (joined m) r mat rhs x n → (n ≡ 0 → ⊥)
+        → (n ≡ fixed_number w m r) × (replicate 4 0 ≡ fixed_answer w m r)
+    fixed_refused fits n mat rhs x k some =
+        let q = fixed_solved fits n mat rhs x k in
+        (q.0, sym (zeros _ _ x (λ e. some (k.number_eq ∙ ap (λ (b : Bool). cond b 0 10) e)) k.answer_eq) ∙ q.1)

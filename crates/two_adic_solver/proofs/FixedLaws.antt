@@ -1,22 +1,18 @@
 -- A four by four matrix of rows, in the words of its rows one behind the other: one entry set, every entry reduced, a row less a multiple of another,
 -- and the sum of products along a row.
-use Rattle.std.proofs.Common.{◌≡◌, ℕ, zero, suc, ◌+◌, ◌-◌, ◌*◌, ◌%◌, ◌^◌, ◌<◌, ◌≤◌, min, cond, ltb, ◌⊎◌, List, [], ◌∷◌, ◌++◌, length, get_or, set, sym, refl, ap, ◌∙◌, subst, ap₂, ⊎_elim, suc-le-suc, le_refl, le_of_suc-le-suc, not-suc-le-zero, zero-lt-suc, suc-add, eq-or-lt_of_le, lt_of_not-le, ne_of_gt, zero-add, ne_of_lt, add-one, arith, length-set, get_or-set_other, get_or-set_same}
-use native.Mathlib.Nat.{min-eq_left}
+use Rattle.std.proofs.Common.{◌≡◌, ℕ, zero, suc, ◌+◌, ◌-◌, ◌*◌, ◌%◌, ◌^◌, ◌<◌, ◌≤◌, ◌⊎◌, List, [], ◌∷◌, ◌++◌, length, get_or, set, sym, ap, ◌∙◌, subst, ap₂, ⊎_elim, suc-le-suc, le_refl, le_of_suc-le-suc, not-suc-le-zero, zero-lt-suc, suc-add, eq-or-lt_of_le, lt_of_not-le, ne_of_gt, zero-add, ne_of_lt, add-one, arith, length-set, get_or-set_other, get_or-set_same}
 use native.Mathlib.Decide.{dec_le}
 use lib.Seq.{set-append_left}
 use Rattle.meaning.specs.Tables.{at, tabulate}
-use Rattle.meaning.specs.Sums.{sum}
 use Rattle.meaning.specs.Differences.{minus}
-use Rattle.meaning.specs.Factorials.{twos_of}
-use Rattle.meaning.specs.Elimination.{joined, lowest}
+use Rattle.meaning.specs.Elimination.{joined}
 use Rattle.theory.specs.Tables.{length-tabulate, at-tabulate, eq-tabulate}
-use Rattle.theory.specs.MatrixTables.{places, length-joined, at_joined}
-use Rattle.two_adic_solver.specs.Fixed.{Square}
+use Rattle.theory.specs.MatrixTables.{places, at_joined}
+use Rattle.theory.specs.Parts.{part, length_part, at_part}
+use Rattle.two_adic_solver.specs.Fixed.{Square, joined_length}
 use Rattle.two_adic_solver.specs.Rows.{Subtracted}
-use Rattle.two_adic_solver.specs.Solved.{rest_of}
 use Rattle.two_adic_solver.proofs.ClearLaws.{dec_eq}
-use Rattle.two_adic_solver.proofs.RowLaws.{subtracted_start, subtracted_step, Searched, searched_start, searched_step}
-use Rattle.two_adic_solver.proofs.SubstitutionLaws.{sum_none, sum_more, minus_word}
+use Rattle.two_adic_solver.proofs.RowLaws.{subtracted_step}
 
 -- ---- rows one behind the other
 
@@ -43,18 +39,27 @@ module _ {m : List (List ℕ)} (q : Square m) where
   rows_full : (i : ℕ) → i < length m → length (get_or m i []) ≡ 4
   rows_full i l = q.row i (rw q.rows at l)
 
-  pub joined_length : length (joined m) ≡ 16
-  joined_length = length-joined 4 m rows_full ∙ ap (◌* 4) q.rows
-
   pub joined-entry : (i c : ℕ) → i < 4 → c < 4 → at (joined m) (i * 4 + c) ≡ at (get_or m i []) c
   joined-entry i c p l = at_joined 4 m rows_full i c (rw q.rows p) l
 
   pub joined-set : (i c v : ℕ) → i < 4 → c < 4 → joined (set m i (set (get_or m i []) c v)) ≡ set (joined m) (i * 4 + c) v
   joined-set i c v p l = joined-put 4 m rows_full i c v (rw q.rows p) l
 
-  -- an entry that has fewer twos than the width
-  pub low-entry : (w i c : ℕ) → i < 4 → c < 4 → twos_of w (at (joined m) (i * 4 + c)) < w → twos_of w (at (get_or m i []) c) < w
-  low-entry w i c p l h = subst (λ (n : ℕ). twos_of w n < w) (joined-entry i c p l) h
+  -- a row behind a column
+  pub joined-behind : (i c : ℕ) → i < 4 → c < 4 → part (c + 1) (length (get_or m i [])) (get_or m i []) ≡ part (i * 4 + c + 1) (i * 4 + 4) (joined m)
+  joined-behind i c p l =
+      let r : List ℕ = get_or m i [] in
+      let f : ℕ → ℕ = λ k. at (joined m) (i * 4 + c + 1 + k) in
+      let fits : i * 4 + 4 ≤ length (joined m) = omega (arith, joined_length q) in
+      let count : i * 4 + 4 - (i * 4 + c + 1) ≡ 4 - (c + 1) = omega arith in
+      let full : length r - (c + 1) ≡ 4 - (c + 1) = ap (◌- (c + 1)) (q.row i p) in
+      eq-tabulate _ (4 - (c + 1)) f (length_part (c + 1) (length r) r (le_refl (length r)) ∙ full)
+      (λ k b.
+      let there : i * 4 + (c + 1 + k) ≡ i * 4 + c + 1 + k = omega arith in
+      at_part (c + 1) (length r) r (le_refl (length r)) k (rw full b)
+      ∙ sym (joined-entry i (c + 1 + k) p (omega arith))
+      ∙ ap (at (joined m)) there)
+      ∙ sym (eq-tabulate _ (4 - (c + 1)) f (length_part _ _ (joined m) fits ∙ count) (λ k b. at_part _ _ (joined m) fits k (rw count b)))
 
   -- a row replaced
   pub row_here : (i : ℕ) (r : List ℕ) → i < 4 → get_or (set m i r) i [] ≡ r
@@ -75,9 +80,6 @@ pub record RowsReduced (w : ℕ) (m₀ m : List (List ℕ)) (k : ℕ) : Type 0 w
   pub above : (i : ℕ) → k ≤ i → get_or m i [] ≡ get_or m₀ i []
 
 module _ (w : ℕ) (m₀ : List (List ℕ)) (q₀ : Square m₀) where
-  pub reduced_start : RowsReduced w m₀ m₀ 0
-  reduced_start = record { square = q₀; below = λ i c l p. absurd (not-suc-le-zero l); above = λ i l. refl }
-
   pub reduced_step : (m : List (List ℕ)) (k : ℕ) (r : List ℕ) → RowsReduced w m₀ m k → k < 4
       → r ≡ tabulate (length (get_or m k [])) (λ n. at (get_or m k []) n % 2 ^ w) → RowsReduced w m₀ (set m k r) (k + 1)
   reduced_step m k r h l e =
@@ -111,24 +113,6 @@ module _ (w : ℕ) (m₀ : List (List ℕ)) (q₀ : Square m₀) where
       entry i c p s =
           joined-entry h.square i c p s ∙ h.below i c (omega arith) s ∙ ap (◌% 2 ^ w) (sym (joined-entry q₀ i c p s))
 
--- ---- the search for a pivot, with the place of the next entry
-
-module _ (w c : ℕ) (h : ℕ → ℕ) where
-  pub searched_first : Searched w 4 4 c h 4 w (0 * 4 + c) 0
-  searched_first =
-      let s = searched_start w 4 4 c h 0 refl in
-      record { row_eq = s.row_eq; least_eq = s.least_eq; place_eq = refl; within = s.within }
-
-  pub searched_next : (row least i here : ℕ) → Searched w 4 4 c h row least (i * 4 + c) i → i < 4 → here ≡ h i
-      → Searched w 4 4 c h (cond (ltb here least) i row) (cond (ltb here least) here least) ((i + 1) * 4 + c) (i + 1)
-  searched_next row least i here r l e =
-      let s = searched_step w 4 4 c h row least (i * 4 + c) i here r l e in
-      record { row_eq = s.row_eq; least_eq = s.least_eq; place_eq = refl; within = s.within }
-
--- the lowest of four rows, for a number of rows that is 4
-pub lowest-rows : (rows w p : ℕ) (h : ℕ → ℕ) → rows ≡ 4 → p ≡ (lowest 4 w h 4).row → p ≡ (lowest rows w h rows).row
-lowest-rows rows w p h e f = subst (λ (n : ℕ). p ≡ (lowest n w h n).row) (sym e) f
-
 -- ---- row i less q times row p, from column c on
 
 pub record RowLess (w q p i c : ℕ) (m₀ m : List (List ℕ)) (k : ℕ) : Type 0 where
@@ -140,16 +124,6 @@ pub record RowLess (w q p i c : ℕ) (m₀ m : List (List ℕ)) (k : ℕ) : Type
 module _ (w q p i c : ℕ) (m₀ : List (List ℕ)) where
   abbrev Less : ℕ → List ℕ → Type 0
   Less n t = Subtracted (2 ^ w) q (i * 4 + c) n (λ j. at (joined m₀) (p * 4 + c + j)) (joined m₀) t
-
-  pub less-start : Square m₀ → c < 4 → RowLess w q p i c m₀ m₀ c
-  less-start s l =
-      let e : 0 ≡ c - c = omega arith in
-      record {
-        square = s;
-        from = le_refl c;
-        within = omega arith;
-        less = subst (λ (n : ℕ). Less n (joined m₀)) e (subtracted_start (2 ^ w) q (i * 4 + c) _ (joined m₀));
-      }
 
   module _ (m : List (List ℕ)) (k : ℕ) (h : RowLess w q p i c m₀ m k) where
     -- the source's number is not among those done
@@ -178,49 +152,3 @@ module _ (w q p i c : ℕ) (m₀ : List (List ℕ)) where
               subst (λ (n : ℕ). Less n (joined (set m i (set (get_or m i []) k v)))) nk
               (subst (Less (k - c + 1)) (ap (λ (n : ℕ). set (joined m) n v) ni ∙ sym (joined-set h.square i k v li lk)) next);
         }
-
-    pub less_done : 4 ≤ k → Less (4 - c) (joined m)
-    less_done l =
-        let e : k ≡ 4 = omega (arith, h.within) in
-        subst (λ (n : ℕ). Less (n - c) (joined m)) e h.less
-
--- ---- the sum of products along row p, behind column c
-
-module _ (m : List (List ℕ)) (x : List ℕ) (p c : ℕ) where
-  abbrev pub term : ℕ → ℕ
-  term j = at (joined m) (p * 4 + (suc c + j)) * at x (suc c + j)
-
-  pub record Known (a k : ℕ) : Type 0 where
-    pub sum_eq : a ≡ sum (k - suc c) term % 2 ^ 64
-    pub from : suc c ≤ k
-    pub within : k ≤ 4
-
-  pub known_start : c < 4 → Known 0 (c + 1)
-  known_start l =
-      let e : 0 ≡ c + 1 - suc c = omega arith in
-      record { sum_eq = sum_none term ∙ ap (λ (n : ℕ). sum n term % 2 ^ 64) e; from = omega arith; within = omega arith }
-
-  pub known_step : (a b r k : ℕ) → Square m → p < 4 → Known a k → k < 4 → b ≡ (at (get_or m p []) k * at x k) % 2 ^ 64 → r ≡ (a + b) % 2 ^ 64
-      → Known r (k + 1)
-  known_step a b r k q lp h l eb er =
-      let from : suc c ≤ k = h.from in
-      let nk : k - suc c + 1 ≡ k + 1 - suc c = omega arith in
-      let here : k ≡ suc c + (k - suc c) = omega arith in
-      let same : at (get_or m p []) k * at x k ≡ term (k - suc c) =
-      ap (◌* at x k) (sym (joined-entry q p k lp l)) ∙ ap (λ (n : ℕ). at (joined m) (p * 4 + n) * at x n) here in
-      record {
-        sum_eq =
-            sum_more term (k - suc c) a b r h.sum_eq (eb ∙ ap (◌% 2 ^ 64) same) er ∙ ap (λ (n : ℕ). sum n term % 2 ^ 64) nk;
-        from = omega arith;
-        within = omega arith;
-      }
-
-  pub known_rest : (w : ℕ) (rhs : List ℕ) (a k r : ℕ) → Known a k → 4 ≤ k → w ≤ 64 → r ≡ minus (2 ^ min w 64) (at rhs p) a
-      → r ≡ rest_of w 4 (joined m) rhs x p c
-  unfolding rest_of
-  known_rest w rhs a k r h l lw er =
-      let e : k - suc c ≡ 4 - suc c = omega (arith, h.within) in
-      er
-      ∙ ap (λ (n : ℕ). minus (2 ^ n) (at rhs p) a) (min-eq_left lw)
-      ∙ ap (minus (2 ^ w) (at rhs p)) (h.sum_eq ∙ ap (λ (n : ℕ). sum n term % 2 ^ 64) e)
-      ∙ minus_word w (at rhs p) _ lw

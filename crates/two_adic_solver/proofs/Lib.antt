@@ -5,6 +5,7 @@ pub mod ClearedLaws
 pub mod RowLoops
 pub mod PartLaws
 pub mod ColumnLaws
+pub mod TestLaws
 pub mod SubstitutionLaws
 pub mod SolverLaws
 pub mod SolvesLaws

@@ -1,5 +1,5 @@
 -- Back-substitution on tables: tests of all rows and columns, a column's rest and value, and the columns one after the other, last first.
-use Rattle.std.proofs.Common.{◌≡◌, ℕ, suc, ◌+◌, ◌-◌, ◌*◌, ◌/◌, ◌%◌, ◌^◌, ◌<◌, ◌≤◌, min, Bool, true, false, T, eqb, List, length, set, sym, refl, ap, ◌∙◌, subst, ap₂, ⊎_elim, zero-le, le_trans, le_of_eq, le_refl, le_of_suc-le-suc, mul-le-mul_right, suc-mul, eq-or-lt_of_le, ne_of_gt, add-one, arith, get_or-set_other, get_or-set_same, pow_pos, eq-eqb, ne_eqb}
+use Rattle.std.proofs.Common.{◌≡◌, ℕ, suc, ◌+◌, ◌-◌, ◌*◌, ◌/◌, ◌%◌, ◌^◌, ◌<◌, ◌≤◌, min, Bool, true, false, T, eqb, List, length, set, sym, refl, ap, ◌∙◌, subst, ap₂, ⊎_elim, zero-le, le_trans, le_of_eq, le_refl, mul-le-mul_right, suc-mul, eq-or-lt_of_le, ne_of_gt, arith, get_or-set_other, get_or-set_same, pow_pos, eq-eqb, ne_eqb}
 use native.Mathlib.Nat.{min-eq_left}
 use lib.ListN.{get_or-eq_default}
 use Rattle.meaning.specs.Tables.{at}
@@ -9,9 +9,9 @@ use Rattle.meaning.specs.Sums.{sum}
 use Rattle.meaning.specs.Differences.{minus}
 use Rattle.meaning.specs.Recovery.{every}
 use Rattle.meaning.specs.Elimination.{State, quotient, pivot_entry, rest, divides_rest, unknown, substituted}
-use Rattle.theory.specs.Congruence.{cong_add, mod-cong, cong_of_eq, minus_cong}
+use Rattle.theory.specs.Congruence.{mod-cong, cong_of_eq, minus_cong}
 use Rattle.theory.specs.Words.{cong_of_pow}
-use Rattle.theory.specs.Sums.{sum_last, sum_eq}
+use Rattle.theory.specs.Sums.{sum_eq}
 use Rattle.theory.specs.Every.{every-iff}
 use Rattle.theory.specs.BackSubstitution.{unknown-eq, divides_rest-eq, backward_keeps, substituted-unknown}
 use Rattle.theory.specs.Parts.{part, length_part, at_part}
@@ -38,29 +38,7 @@ every_fails n p i l e = go (every n p) refl
     go false h = refl
     go true h = absurd (subst (λ (b : Bool). T b) e ((every-iff n p).0 (T_of h) i l))
 
--- one number more has passed
-pub tested_one : (p : ℕ → Bool) (k : ℕ) → ((i : ℕ) → i < k → p i ≡ true) → p k ≡ true → (i : ℕ) → i < k + 1 → p i ≡ true
-tested_one p k h e i l =
-    ⊎_elim (λ (x : i ≡ k). ap p x ∙ e) (λ (x : i < k). h i x) (eq-or-lt_of_le (le_of_suc-le-suc (rw (add-one k) at l)))
-
 -- ---- sums of products
-
-pub sum_more : (f : ℕ → ℕ) (k a b r : ℕ) → a ≡ sum k f % 2 ^ 64 → b ≡ f k % 2 ^ 64 → r ≡ (a + b) % 2 ^ 64 → r ≡ sum (k + 1) f % 2 ^ 64
-sum_more f k a b r ea eb er =
-    er
-    ∙ ap₂ (λ (a b : ℕ). (a + b) % 2 ^ 64) ea eb
-    ∙ (cong_add (mod-cong (2 ^ 64) (sum k f)) (mod-cong (2 ^ 64) (f k))).same
-    ∙ ap (◌% 2 ^ 64) (sym (sum_last k f))
-    ∙ ap (λ (n : ℕ). sum n f % 2 ^ 64) (sym (add-one k))
-
-pub sum_none : (f : ℕ → ℕ) → 0 ≡ sum 0 f % 2 ^ 64
-unfolding sum
-sum_none f = refl
-
-pub sum_whole_lem : (f : ℕ → ℕ) (k n a : ℕ) → a ≡ sum k f % 2 ^ 64 → k ≤ n → n ≤ k → a ≡ sum n f % 2 ^ 64
-sum_whole_lem f k n a e l m =
-    let same : k ≡ n = omega arith in
-    e ∙ ap (λ (j : ℕ). sum j f % 2 ^ 64) same
 
 -- ---- one column
 
@@ -193,8 +171,8 @@ module _ (w cols : ℕ) (s : State) where
           ∙ unknown-eq w cols s (at x) (substituted w cols s) d (λ j l. v.agree j l)
           ∙ sym (substituted-unknown w cols s d ld)
 
-  values_fail : (x x' : List ℕ) (d : ℕ) → d < cols → Values w cols s x (suc d) → Solved w cols s d x x' false → Substituted w cols s x' false
-  values_fail x x' d ld v r =
+  values_fail : (x x' y : List ℕ) (d : ℕ) → d < cols → Values w cols s x (suc d) → Solved w cols s d x x' false → Substituted w cols s y false
+  values_fail x x' y d ld v r =
       record {
         divide = sym (every_fails cols (λ c. divides_rest w cols s (substituted w cols s) c) d ld (turn x d v ∙ sym r.divides));
         values = λ f. absurd (subst (λ (b : Bool). T b) (sym f) tt);
@@ -222,12 +200,6 @@ module _ (w cols : ℕ) (x₀ mat rhs : List ℕ) where
     next_pivot : at x (c - 1) ≡ at x₀ (c - 1)
     next_pivot = r.kept (c - 1) (omega arith)
 
-    -- what holds of all pivot rows holds of it
-    pub next_low : ((j : ℕ) → j < cols → (at x₀ j < length rhs) × (twos_of w (at mat (at x₀ j * cols + j)) < w))
-        → (at x (c - 1) < length rhs) × (twos_of w (at mat (at x (c - 1) * cols + (c - 1))) < w)
-    next_low f =
-        subst (λ (p : ℕ). (p < length rhs) × (twos_of w (at mat (p * cols + (c - 1))) < w)) (sym next_pivot) (f (c - 1) next_lt)
-
     abbrev Turn : Bool → Type 0
     Turn b = (s : State) → Shows (length rhs) cols s mat rhs → s.pivot (c - 1) ≡ at x (c - 1) → Solved w cols s (c - 1) x x' b
 
@@ -248,9 +220,9 @@ module _ (w cols : ℕ) (x₀ mat rhs : List ℕ) where
         }
 
     pub substituting_fails : Turn false
-        → (s : State) → Shows (length rhs) cols s mat rhs → ((j : ℕ) → j < cols → at x₀ j ≡ s.pivot j) → Substituted w cols s x' false
-    substituting_fails t s h k =
-        values_fail w cols s x x' (c - 1) next_lt (subst (Values w cols s x) whole (r.so_far s h k)) (turned false t s h k)
+        → (y : List ℕ) (s : State) → Shows (length rhs) cols s mat rhs → ((j : ℕ) → j < cols → at x₀ j ≡ s.pivot j) → Substituted w cols s y false
+    substituting_fails t y s h k =
+        values_fail w cols s x x' y (c - 1) next_lt (subst (Values w cols s x) whole (r.so_far s h k)) (turned false t s h k)
 
   pub substituting_done : (x : List ℕ) (c : ℕ) → Substituting w cols x₀ mat rhs x c → c ≤ 0
       → (s : State) → Shows (length rhs) cols s mat rhs → ((j : ℕ) → j < cols → at x₀ j ≡ s.pivot j) → Substituted w cols s x true

@@ -3,9 +3,12 @@
 
 mod elimination;
 pub mod fixed;
-mod fixed_elimination;
-mod fixed_substitution;
+mod pivot;
 mod rooms;
 mod rows;
+mod solution;
 pub mod solver;
+mod square;
 mod substitution;
+mod system;
+mod table;

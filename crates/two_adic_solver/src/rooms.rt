@@ -1,30 +1,55 @@
-// Room for the marks of the used rows, in two sizes.
-ghost use Rattle.std.specs.Prelude.{◌≡◌, ◌*◌, ◌<◌, ◌≤◌, length};
+// Room for the marks of the used rows, in two sizes. The lent tables stay parameters here: with a table as one parameter each contract would have to say
+// that both lent tables are still the same.
+ghost use Rattle.std.specs.Prelude.{◌≡◌, ℕ, ◌*◌, ◌<◌, ◌≤◌, false, length, slice_index_or};
 ghost use Rattle.two_adic_solver.specs.Solved.{Finished};
 ghost use Rattle.answers.specs.Said.{said_number};
 
-use crate::solver;
-use answers::Outcome;
+use crate::solution;
+use crate::table::Table;
+use answers::Refusal;
 
-// With marks for 256 rows.
-fn solve_small(
+// With room for the marks. The table is made here, in one function for both sizes, so that the compiler keeps its fields in registers.
+fn solve_table(
+    matrix: &mut [u64],
+    right: &mut [u64],
+    used: &mut [bool],
+    columns: usize,
+    bitwidth: u32,
+    answer: &mut [u64],
+) -> Result<(), Refusal>
+    requires matrix_len { (length matrix.old ≡ length right.old * columns) × (length matrix.old ≤ 65536) × (length answer.old ≡ columns) }
+    requires right_len_bound { (length right.old ≤ length used.old) × (bitwidth ≤ 64)
+        × ((i : ℕ) → i < length right.old → slice_index_or used.old i false ≡ false) }
+    ensures { Finished bitwidth columns matrix.old right.old matrix.new right.new
+        answer.new (said_number result) }
+{
+    let mut table = Table {
+        entries: matrix,
+        right,
+        columns,
+        bitwidth,
+    };
+    solution::solve(&mut table, used, answer)
+}
+
+// With marks for so many rows.
+fn solve_within<const ROWS: usize>(
     matrix: &mut [u64],
     right: &mut [u64],
     columns: usize,
     bitwidth: u32,
     answer: &mut [u64],
-) -> Outcome
-    requires matrix_len { (length matrix.old ≡ length right.old * columns) × (length matrix.old ≤ 65536) × (columns ≤ 65536) × (length answer.old ≡ columns) }
-    requires right_len_bound { (length right.old ≤ 256) × (bitwidth ≤ 64) }
+) -> Result<(), Refusal>
+    requires matrix_len { (length matrix.old ≡ length right.old * columns) × (length matrix.old ≤ 65536) × (length answer.old ≡ columns) }
+    requires right_len_bound { (length right.old ≤ ROWS) × (ROWS ≤ 65536) × (bitwidth ≤ 64) }
     ensures { Finished bitwidth columns matrix.old right.old matrix.new right.new
         answer.new (said_number result) }
 {
-    let mut used = [false; 256];
-    solver::solve_with(matrix, right, &mut used, columns, bitwidth, answer)
+    let mut used = [false; ROWS];
+    solve_table(matrix, right, &mut used, columns, bitwidth, answer)
 }
 
-// With marks for 65,536 rows. It is for systems that are not small, so that its call of itself is never made: that call, and the attribute, keep the compiler
-// from laying the marks out in the frame of the small ones.
+// With marks for 65,536 rows. The attribute keeps the compiler from laying the marks out in the frame of the small systems.
 #[inline(never)]
 fn solve_tall(
     matrix: &mut [u64],
@@ -32,19 +57,13 @@ fn solve_tall(
     columns: usize,
     bitwidth: u32,
     answer: &mut [u64],
-) -> Outcome
-    requires matrix_len { (length matrix.old ≡ length right.old * columns) × (length matrix.old ≤ 65536) × (columns ≤ 65536) × (length answer.old ≡ columns) }
-    requires right_len_bound { (length right.old ≤ 65536) × (bitwidth ≤ 64) × (256 < length right.old) }
+) -> Result<(), Refusal>
+    requires matrix_len { (length matrix.old ≡ length right.old * columns) × (length matrix.old ≤ 65536) × (length answer.old ≡ columns) }
+    requires right_len_bound { (length right.old ≤ 65536) × (bitwidth ≤ 64) }
     ensures { Finished bitwidth columns matrix.old right.old matrix.new right.new
         answer.new (said_number result) }
 {
-    if right.len() <= 256 {
-        let never = solve_tall(matrix, right, columns, bitwidth, answer);
-        tables::clear(answer);
-        return never;
-    }
-    let mut used = [false; 65536];
-    solver::solve_with(matrix, right, &mut used, columns, bitwidth, answer)
+    solve_within::<65536>(matrix, right, columns, bitwidth, answer)
 }
 
 // A system that fits, with the room that it needs.
@@ -54,8 +73,8 @@ pub(crate) fn solve_fitting(
     columns: usize,
     bitwidth: u32,
     answer: &mut [u64],
-) -> Outcome
-    requires matrix_len { (length matrix.old ≡ length right.old * columns) × (length matrix.old ≤ 65536) × (columns ≤ 65536) × (length answer.old ≡ columns) }
+) -> Result<(), Refusal>
+    requires matrix_len { (length matrix.old ≡ length right.old * columns) × (length matrix.old ≤ 65536) × (length answer.old ≡ columns) }
     requires right_len_bound { (length right.old ≤ 65536) × (bitwidth ≤ 64) }
     ensures { Finished bitwidth columns matrix.old right.old matrix.new right.new
         answer.new (said_number result) }
@@ -63,5 +82,5 @@ pub(crate) fn solve_fitting(
     if 256 < right.len() {
         return solve_tall(matrix, right, columns, bitwidth, answer);
     }
-    solve_small(matrix, right, columns, bitwidth, answer)
+    solve_within::<256>(matrix, right, columns, bitwidth, answer)
 }

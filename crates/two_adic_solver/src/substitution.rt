@@ -1,5 +1,6 @@
 // After the elimination: the tests that it leaves, and back-substitution, last column first.
-ghost use Rattle.std.specs.Prelude.{◌≡◌, ℕ, ◌+◌, ◌-◌, ◌*◌, ◌%◌, ◌^◌, ◌<◌, ◌≤◌, false, ◌||◌, length, ◌==◌, nat_lt, slice_index_or};
+ghost use Rattle.std.specs.Prelude.{◌≡◌, ℕ, ◌+◌, ◌*◌, ◌%◌, ◌^◌, ◌<◌, ◌≤◌, false, ◌||◌, length, ◌==◌, nat_lt, slice_index_or, is_ok, IfErr, unwrap_or, slice_set};
+ghost use Rattle.std.specs.Result.{result_ok};
 ghost use Rattle.meaning.specs.Tables.{at};
 ghost use Rattle.meaning.specs.Sums.{sum};
 ghost use Rattle.meaning.specs.Recovery.{every};
@@ -8,31 +9,15 @@ ghost use Rattle.meaning.specs.Elimination.{State};
 ghost use Rattle.two_adic_solver.specs.ShownStates.{Shows};
 ghost use Rattle.two_adic_solver.specs.Solved.{rest_of, Solved, Substituted};
 
-use crate::rows;
+use crate::pivot::Pivot;
+use crate::system::System;
+use answers::Refusal;
 
 // Whether every column has a pivot row.
-pub(crate) fn pivots_found(pivots: &[u64], columns: usize, rows: usize) -> bool
-    requires { columns ≤ length pivots.now }
-    ensures { result ≡ every columns (λ c. nat_lt (at pivots.now c) rows) }
+pub(crate) fn pivots_found(pivots: &[u64], rows: usize) -> bool
+    ensures { result ≡ every (length pivots.now) (λ c. nat_lt (at pivots.now c) rows) }
 {
-    let mut c = 0;
-    while c < columns {
-        if rows <= pivots[c] as usize {
-            return false;
-        }
-        c += 1;
-    }
-    true
-}
-
-// Whether a row is used or has the right side 0.
-fn vanishes(used: bool, right: u64) -> bool
-    ensures { result ≡ (used || right == 0) }
-{
-    if used {
-        return true;
-    }
-    right == 0
+    pivots.iter().all(|row| (*row as usize) < rows)
 }
 
 // Whether every row that is not used has the right side 0.
@@ -40,14 +25,10 @@ pub(crate) fn rights_vanish(right: &[u64], used: &[bool]) -> bool
     requires { length right.now ≤ length used.now }
     ensures { result ≡ every (length right.now) (λ i. slice_index_or used.now i false || at right.now i == 0) }
 {
-    let mut i = 0;
-    while i < right.len() {
-        if !vanishes(used[i], right[i]) {
-            return false;
-        }
-        i += 1;
-    }
-    true
+    right
+        .iter()
+        .zip(used)
+        .all(|(side, used)| *used || *side == 0)
 }
 
 // The sum of the products of two lists, modulo 2^64.
@@ -55,87 +36,52 @@ fn dot(row: &[u64], x: &[u64]) -> u64
     requires { length row.now ≤ length x.now }
     ensures { result ≡ sum (length row.now) (λ k. at row.now k * at x.now k) % 2 ^ 64 }
 {
-    let mut total: u64 = 0;
-    let mut k = 0;
-    while k < row.len() {
-        total = std::num::wrapping_add_u64(total, arith::wrapping_mul(row[k], x[k]));
-        k += 1;
-    }
-    total
+    row.iter().zip(x).fold(0, |total: u64, (entry, value)| {
+        total.wrapping_add(arith::wrapping_mul(*entry, *value))
+    })
 }
 
-// What is left of the right side of a column's pivot row when the columns after it have the values in `answer`, modulo 2^bitwidth.
-fn rest_of(
-    matrix: &[u64],
-    right: &[u64],
-    answer: &[u64],
-    columns: usize,
-    column: usize,
-    pivot: usize,
-    bitwidth: u32,
-) -> u64
-    requires matrix_len { (length matrix.now ≡ length right.now * columns) × (length matrix.now ≤ 65536) × (column < columns) × (pivot < length right.now) }
-    requires answer_len { (length answer.now ≡ columns) × (bitwidth ≤ 64) }
-    ensures { result ≡ rest_of bitwidth columns matrix.now right.now answer.now pivot column }
+// What is left of the right side of a column's pivot row when the columns after it have the values in `answer`, modulo 2^w.
+fn rest_of<S: System>(system: &S, answer: &[u64], column: usize, row: usize) -> u64
+    requires { S.whole system.now × (length answer.now ≡ S.columns system.now) × (column < S.columns system.now) × (row < length (S.right system.now)) }
+    ensures { result ≡ rest_of (S.width system.now) (S.columns system.now) (S.entries system.now) (S.right system.now) answer.now row column }
 {
-    let start = pivot * columns;
-    let known = dot(
-        &matrix[start + column + 1..start + columns],
-        &answer[column + 1..columns],
-    );
-    arith::mod_sub(right[pivot], known, bitwidth)
+    let known = dot(system.behind(row, column), &answer[column + 1..]);
+    arith::mod_sub(system.right()[row], known, system.width())
 }
 
-// One column: its value is put into the answer, unless its pivot's power of two does not divide what is left of the right side. The entries before it
-// stay.
-fn solve_column(
-    matrix: &[u64],
-    right: &[u64],
-    answer: &mut [u64],
-    columns: usize,
-    column: usize,
-    pivot: usize,
-    bitwidth: u32,
-) -> bool
-    requires matrix_len { (length matrix.now ≡ length right.now * columns) × (length matrix.now ≤ 65536) × (column < columns) × (pivot < length right.now) }
-    requires answer_len { (length answer.old ≡ columns) × (bitwidth ≤ 64) × (twos_of bitwidth (at matrix.now (pivot * columns + column)) < bitwidth) }
-    ensures keeps { (j : ℕ) → j < column → at answer.new j ≡ at answer.old j }
-    ensures solves { (s : State) → Shows (length right.now) columns s matrix.now right.now → s.pivot column ≡ pivot
-        → Solved bitwidth columns s column answer.old answer.new result }
+// The value of a column, unless its pivot's power of two does not divide what is left of the right side. `answer` has its pivot row.
+fn solve_column<S: System>(system: &S, answer: &[u64], column: usize) -> Result<u64, Refusal>
+    requires whole { S.whole system.now }
+    requires sizes { (length answer.now ≡ S.columns system.now) × (column < S.columns system.now) × (at answer.now column < length (S.right system.now)) }
+    requires pivot { twos_of (S.width system.now) (at (S.entries system.now) (at answer.now column * S.columns system.now + column)) < S.width system.now }
+    ensures refusal { IfErr result (λ r. r ≡ Refusal.NoAnswer) }
+    ensures solves { (s : State) → Shows (length (S.right system.now)) (S.columns system.now) s (S.entries system.now) (S.right system.now)
+        → s.pivot column ≡ at answer.now column
+        → Solved (S.width system.now) (S.columns system.now) s column answer.now
+        (slice_set answer.now column (unwrap_or (result_ok result) 0)) (is_ok result) }
 {
-    let entry = matrix[pivot * columns + column];
-    let twos = rows::height(entry, false, bitwidth);
-    let rest = rest_of(matrix, right, answer, columns, column, pivot, bitwidth);
-    if rest & arith::bitmask(twos) != 0 {
-        return false;
+    let row = answer[column] as usize;
+    let pivot = Pivot::new(system.entry(row, column), row, column, system.width());
+    let rest = rest_of(system, answer, column, row);
+    if !pivot.divides(rest) {
+        return Err(Refusal::NoAnswer);
     }
-    let v = rows::pivot_inverse(entry, twos, bitwidth);
-    answer[column] = rows::multiplier(rest, twos, v, bitwidth);
-    true
+    Ok(pivot.multiplier(rest))
 }
 
 // All columns, last column first: each reads its pivot row in `answer`, and puts its value there. It ends at the first that does not divide.
-pub(crate) fn substitute(
-    matrix: &[u64],
-    right: &[u64],
-    answer: &mut [u64],
-    columns: usize,
-    bitwidth: u32,
-) -> bool
-    requires matrix_len { (length matrix.now ≡ length right.now * columns) × (length matrix.now ≤ 65536) }
-    requires answer_len { (length answer.old ≡ columns) × (bitwidth ≤ 64) }
-    requires by_index { (j : ℕ) → j < columns → (at answer.old j < length right.now) × (twos_of bitwidth (at matrix.now (at answer.old j * columns + j)) < bitwidth) }
-    ensures { (s : State) → Shows (length right.now) columns s matrix.now right.now
-        → ((j : ℕ) → j < columns → at answer.old j ≡ s.pivot j)
-        → Substituted bitwidth columns s answer.new result }
+pub(crate) fn substitute<S: System>(system: &S, answer: &mut [u64]) -> Result<(), Refusal>
+    requires whole { S.whole system.now × (length answer.old ≡ S.columns system.now) }
+    requires by_index { (j : ℕ) → j < S.columns system.now → (at answer.old j < length (S.right system.now))
+        × (twos_of (S.width system.now) (at (S.entries system.now) (at answer.old j * S.columns system.now + j)) < S.width system.now) }
+    ensures refusal { IfErr result (λ r. r ≡ Refusal.NoAnswer) }
+    ensures substituted { (s : State) → Shows (length (S.right system.now)) (S.columns system.now) s (S.entries system.now) (S.right system.now)
+        → ((j : ℕ) → j < S.columns system.now → at answer.old j ≡ s.pivot j)
+        → Substituted (S.width system.now) (S.columns system.now) s answer.new (is_ok result) }
 {
-    let mut column = columns;
-    while 0 < column {
-        column -= 1;
-        let pivot = answer[column] as usize;
-        if !solve_column(matrix, right, answer, columns, column, pivot, bitwidth) {
-            return false;
-        }
+    for column in (0..system.columns()).rev() {
+        answer[column] = solve_column(system, answer, column)?;
     }
-    true
+    Ok(())
 }

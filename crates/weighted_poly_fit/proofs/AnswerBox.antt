@@ -3,7 +3,7 @@ use mathlib.Core.Path.{◌≡◌, refl, sym, ap, ap₂, ◌∙◌}
 use mathlib.Core.Bool.{Bool, true, false, cond}
 use mathlib.Core.List.{List, []}
 use Prim.Native.Nat.{ℕ, suc, ◌+◌, ◌*◌, ◌-◌, ◌%◌, ◌≤◌, ◌<◌, max, zero-le}
-use native.Mathlib.Nat.{zero-mul, mul-le-mul_right, not-suc-le-zero}
+use native.Mathlib.Nat.{mul-le-mul_right, not-suc-le-zero}
 use native.Mathlib.Numerals.{add-one}
 use native.Mathlib.Decide.{dec_le}
 use native.Mathlib.Omega.{arith}
@@ -41,11 +41,10 @@ pub record Lent (w : ℕ) (ds : List ℕ) (most : ℕ) (values exponents : List 
   pub long : length values ≡ length (columns ds most)
 
 -- the columns before column c are done
-pub record Answered (w : ℕ) (ds : List ℕ) (most : ℕ) (values exponents out : List ℕ) (highest from c : ℕ) : Type 0 where
+pub record Answered (w : ℕ) (ds : List ℕ) (most : ℕ) (values exponents out : List ℕ) (highest c : ℕ) : Type 0 where
   pub lent : Lent w ds most values exponents
   pub whole : length out ≡ cells ds
   pub few : c ≤ length values
-  pub place : from ≡ c * length ds
   pub stored : (i : ℕ) → i < c
       → at out (cell ds (list_of ds most i)) ≡ at (fit_box_of w ds (columns ds most) (at values)) (cell ds (list_of ds most i))
   pub others : (n : ℕ) → ((i : ℕ) → i < c → cell ds (list_of ds most i) ≡ n → ⊥) → at out n ≡ 0
@@ -53,53 +52,51 @@ pub record Answered (w : ℕ) (ds : List ℕ) (most : ℕ) (values exponents out
 
 module _ {w : ℕ} {ds : List ℕ} {most : ℕ} {values exponents : List ℕ} where
   pub answered_start : {out : List ℕ} (n : ℕ) → Lent w ds most values exponents → out ≡ tabulate n (λ i. 0) → n ≡ cells ds
-      → Answered w ds most values exponents out 0 0 0
+      → Answered w ds most values exponents out 0 0
   unfolding largest
   answered_start {out} n g e l =
       record {
         lent = g;
         whole = ap length e ∙ length-tabulate n _ ∙ l;
         few = zero-le;
-        place = sym (zero-mul (length ds));
         stored = λ i h. absurd (not-suc-le-zero h);
         others = λ i h. ap (λ (t : List ℕ). at t i) e ∙ at-tabulate-zero n i;
         high = refl;
       }
 
-  module _ {out : List ℕ} {highest from c : ℕ} (r : Answered w ds most values exponents out highest from c) (h : c < length values) where
+  module _ {out : List ℕ} {highest c : ℕ} (r : Answered w ds most values exponents out highest c) (h : c < length values) where
     column_is : c < length (columns ds most)
     column_is = omega (arith, r.lent.long)
 
     -- the exponents of the column
-    pub column_end : from + length ds ≤ length exponents
+    pub column_end : c * length ds + length ds ≤ length exponents
     column_end =
         let l : suc c * length ds ≤ length (columns ds most) * length ds = mul-le-mul_right (length ds) column_is in
-        omega (arith, l, r.place, length-columns-joined ds most, ap length r.lent.listed)
+        omega (arith, l, length-columns-joined ds most, ap length r.lent.listed)
 
-    pub column_part : take (from + length ds - from) (drop from exponents) ≡ list_of ds most c
+    pub column_part : take (c * length ds + length ds - c * length ds) (drop (c * length ds) exponents) ≡ list_of ds most c
     column_part =
-        let e : from + length ds - from ≡ length ds = omega arith in
-        ap (λ (t : List ℕ). take (from + length ds - from) (drop from t)) r.lent.listed
-        ∙ ap₂ (λ (n m : ℕ). take n (drop m (joined (columns ds most)))) e r.place
+        let e : c * length ds + length ds - c * length ds ≡ length ds = omega arith in
+        ap (λ (t : List ℕ). take (c * length ds + length ds - c * length ds) (drop (c * length ds) t)) r.lent.listed
+        ∙ ap (λ (n : ℕ). take n (drop (c * length ds) (joined (columns ds most)))) e
         ∙ part-joined (length ds) (columns ds most) (λ i l. length-within (column_within w ds most (at values) i l)) c column_is
 
     column_there : Within ds (list_of ds most c)
     column_there = column_within w ds most (at values) c column_is
 
-    pub part-within : Within ds (take (from + length ds - from) (drop from exponents))
+    pub part-within : Within ds (take (c * length ds + length ds - c * length ds) (drop (c * length ds) exponents))
     part-within = rw column_part column_there
 
     pub answered_next : (es out' : List ℕ) (d s : ℕ) → es ≡ list_of ds most c
         → out' ≡ set out (cell ds es) (at values c % bound w es)
         → d ≡ cond (eqb (at values c % bound w es) 0) 0 (total es)
         → s ≡ max highest d
-        → Answered w ds most values exponents out' s (from + length ds) (c + 1)
+        → Answered w ds most values exponents out' s (c + 1)
     answered_next es out' d s q e f g =
         record {
           lent = r.lent;
           whole = ap length e' ∙ length-set out _ _ ∙ r.whole;
           few = omega arith;
-          place = omega (arith, r.place);
           stored = λ i l. ap (λ (t : List ℕ). at t (cell ds (list_of ds most i))) e' ∙ kept i l (eqb (cell ds (list_of ds most i)) k) refl;
           others = λ n l.
               ap (λ (t : List ℕ). at t n) e'
@@ -138,10 +135,10 @@ module _ {w : ℕ} {ds : List ℕ} {most : ℕ} {values exponents : List ℕ} wh
                 absurd (eqb-false _ k p (ap (λ (n : ℕ). cell ds (list_of ds most n)) z))
             earlier (no m) = omega arith
 
-  pub answered_box : {out : List ℕ} {highest from c : ℕ} → Answered w ds most values exponents out highest from c → length values ≤ c
+  pub answered_box : {out : List ℕ} {highest c : ℕ} → Answered w ds most values exponents out highest c → length values ≤ c
       → out ≡ fit_box_of w ds (columns ds most) (at values)
   unfolding fit_box_of
-  answered_box {out} {highest} {from} {c} r h =
+  answered_box {out} {highest} {c} r h =
       eq-tabulate out (cells ds) (λ n. value_of (columns ds most) (at values) (digits ds n) % bound w (digits ds n)) r.whole
       (λ n l. one n l (leb (total (digits ds n)) most) refl ∙ fit_box_of-entry w ds most (at values) n l)
     where
@@ -160,8 +157,8 @@ module _ {w : ℕ} {ds : List ℕ} {most : ℕ} {values exponents : List ℕ} wh
           omega (arith, ap total d, column_bounded w ds most (at values) i b, leb-false _ most e))
           ∙ sym (fit_box_of_other w ds most (at values) n l (leb-false _ most e))
 
-  pub answered_degree : {out : List ℕ} {highest from c : ℕ} → Answered w ds most values exponents out highest from c → length values ≤ c
+  pub answered_degree : {out : List ℕ} {highest c : ℕ} → Answered w ds most values exponents out highest c → length values ≤ c
       → highest ≡ degree_used_of ds (fit_box_of w ds (columns ds most) (at values))
-  answered_degree {out} {highest} {from} {c} r h =
+  answered_degree {out} {highest} {c} r h =
       let e : c ≡ length (columns ds most) = omega (arith, r.few, r.lent.long) in
       r.high ∙ ap (λ (n : ℕ). largest n (degree_at w ds most (at values))) e ∙ sym (degree_used_of-columns w ds most (at values))

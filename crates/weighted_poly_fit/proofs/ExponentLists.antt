@@ -8,6 +8,8 @@ use native.Mathlib.Omega.{arith}
 use lib.Bits.{bit_and}
 use lib.ListN.{length, drop}
 use lib.Seq.{drop-cons, drop-length}
+use Rattle.std.specs.List.{sum_by}
+use Rattle.std.proofs.lemmas.List.Sums.{sum_by-cons}
 use Rattle.meaning.specs.Tables.{at}
 use Rattle.meaning.specs.Factorials.{factorial, twos}
 use Rattle.meaning.specs.Boxes.{cells, cell, Within, none, next}
@@ -15,49 +17,27 @@ use Rattle.meaning.specs.Values.{weight, bound}
 use Rattle.meaning.specs.Fit.{total}
 use Rattle.theory.specs.Boxes.{cell-lt, length-within}
 use Rattle.theory.specs.Words.{masked_low}
+use Rattle.theory.specs.Twos.{legendre}
 
 -- ---- sums
 
--- the exponents before exponent i are counted in s, each with a byte's number
-pub record Summed (f : List ℕ → ℕ) (es : List ℕ) (s i : ℕ) : Type 0 where
-  pub few : i ≤ length es
-  pub small : s ≤ 255 * i
-  pub so_far : s + f (drop i es) ≡ f es
-
-module _ (f : List ℕ → ℕ) (g : ℕ → ℕ) (more : (e : ℕ) (es : List ℕ) → f (e ∷ es) ≡ g e + f es) (none_left : f [] ≡ 0) {es : List ℕ} where
-  pub summed_start : Summed f es 0 0
-  summed_start = record { few = omega arith; small = omega arith; so_far = omega arith }
-
-  pub summed_next : {s i : ℕ} → Summed f es s i → i < length es → g (at es i) ≤ 255 → Summed f es (s + g (at es i)) (i + 1)
-  summed_next {s} {i} r h l =
-      let e : f (drop i es) ≡ g (at es i) + f (drop (suc i) es) = ap f (drop-cons es i 0 h) ∙ more (at es i) (drop (suc i) es) in
-      record {
-        few = omega arith;
-        small = omega (arith, r.small);
-        so_far = ap (λ (n : ℕ). s + g (at es i) + f (drop n es)) (add-one i) ∙ omega (arith, e, r.so_far);
-      }
-
-  pub summed_done : {s i : ℕ} → Summed f es s i → length es ≤ i → s ≡ f es
-  summed_done {s} {i} r h =
-      let e : i ≡ length es = omega (arith, r.few) in
-      let z : f (drop i es) ≡ 0 = ap f (ap (λ (n : ℕ). drop n es) e ∙ drop-length es) ∙ none_left in
-      omega (arith, z, r.so_far)
-
-pub weight_more : (e : ℕ) (es : List ℕ) → weight (e ∷ es) ≡ twos (factorial e) + weight es
+-- the sums of the library
+pub weight-sum : (es : List ℕ) → weight es ≡ sum_by (λ e. twos (factorial e)) es
 unfolding weight
-weight_more e es = refl
+weight-sum [] = refl
+weight-sum (e ∷ es) = ap (twos (factorial e) +◌) (weight-sum es) ∙ sym (sum_by-cons (λ e. twos (factorial e)) e es)
 
-pub weight_none : weight [] ≡ 0
-unfolding weight
-weight_none = refl
+-- each exponent is a byte
+pub twos_few : (es : List ℕ) → ((i : ℕ) → at es i ≤ 255) → sum_by (λ e. twos (factorial e)) es ≤ length es * 255
+twos_few [] h = omega arith
+twos_few (e ∷ es) h =
+    let byte : e ≤ 255 = h 0 in
+    omega (arith, sum_by-cons (λ e. twos (factorial e)) e es, legendre e, twos_few es (λ i. h (suc i)))
 
-pub total_more : (e : ℕ) (es : List ℕ) → total (e ∷ es) ≡ e + total es
+pub total-sum : (es : List ℕ) → total es ≡ sum_by (λ e. e) es
 unfolding total
-total_more e es = refl
-
-pub total_none : total [] ≡ 0
-unfolding total
-total_none = refl
+total-sum [] = refl
+total-sum (e ∷ es) = ap (e +◌) (total-sum es) ∙ sym (sum_by-cons (λ e. e) e es)
 
 -- ---- the coefficient
 

@@ -18,8 +18,10 @@ use Rattle.meaning.specs.Elimination.{State, system, eliminated, substituted, su
 use Rattle.meaning.specs.Elimination.{solver_rows, solver_cause, solver_state, solver_succeeds, solver_number, solver_answer}
 use Rattle.meaning.specs.Fit.{value_of, fit_box_of, degree_used_of}
 use Rattle.theory.specs.Tables.{at-tabulate, tabulate_cong}
+use Rattle.std.specs.Prelude.{⊤, Result, Ok, Err}
+use Rattle.std.specs.Result.{is_ok}
 use Rattle.answers.specs.declared.Refusal.{Refusal}
-use Rattle.answers.specs.Said.{code}
+use Rattle.answers.specs.Said.{code, said_number}
 use Rattle.answers.specs.Laws.{code-suc}
 use Rattle.two_adic_solver.specs.Solved.{Concluded}
 use Rattle.weighted_poly_fit.specs.Fitting.{Solvable, Answered}
@@ -83,7 +85,7 @@ module _ (w : ℕ) (mat rhs x : List ℕ) (f : Solvable w mat rhs x) where
       (λ (r : ℕ). let s = eliminated w r cols (system w cols mat rhs) in tabulate cols (λ c. cond (succeeds w r cols s) (substituted w cols s c) 0)) rows_eq
 
   -- the elimination finds an answer
-  pub concluded_accepted : 0 ≡ solver_number w (length x) mat rhs x → (values : List ℕ) → values ≡ solver_answer w (length x) mat rhs x
+  concluded_accepted : 0 ≡ solver_number w (length x) mat rhs x → (values : List ℕ) → values ≡ solver_answer w (length x) mat rhs x
       → Concluded w (length rhs) (length x) (eliminated w (length rhs) (length x) (system w (length x) mat rhs)) values true
   concluded_accepted e values v =
       record {
@@ -103,7 +105,7 @@ module _ (w : ℕ) (mat rhs x : List ℕ) (f : Solvable w mat rhs x) where
       success = go (succeeds w (length rhs) cols state) (e ∙ number_eq)
 
   -- and none
-  pub concluded_refused : (refusal : Refusal) → code refusal ≡ solver_number w (length x) mat rhs x → (values : List ℕ)
+  concluded_refused : (refusal : Refusal) → code refusal ≡ solver_number w (length x) mat rhs x → (values : List ℕ)
       → Concluded w (length rhs) (length x) (eliminated w (length rhs) (length x) (system w (length x) mat rhs)) values false
   concluded_refused refusal e values =
       record { success = sym (go (succeeds w (length rhs) cols state) (e ∙ number_eq)); values = λ p. absurd (false≢true p) }
@@ -111,6 +113,13 @@ module _ (w : ℕ) (mat rhs x : List ℕ) (f : Solvable w mat rhs x) where
       go : (b : Bool) → code refusal ≡ cond b 0 10 → b ≡ false
       go true p = absurd (suc-ne-zero (pred (code refusal)) (sym (code-suc refusal) ∙ p))
       go false p = refl
+
+  -- which of them, as the answer says
+  pub concluded : (answer : Result ⊤ Refusal) → said_number answer ≡ solver_number w (length x) mat rhs x → (values : List ℕ)
+      → values ≡ solver_answer w (length x) mat rhs x
+      → Concluded w (length rhs) (length x) (eliminated w (length rhs) (length x) (system w (length x) mat rhs)) values (is_ok answer)
+  concluded (Ok _) e values v = concluded_accepted e values v
+  concluded (Err r) e values v = concluded_refused r e values
 
 -- ---- the answer from the values
 

@@ -18,7 +18,7 @@ use Rattle.meaning.specs.Fit.{fit_cause, fit_state, fit_succeeds, fit_answer, fi
 use Rattle.answers.specs.declared.Refusal.{Refusal}
 use Rattle.answers.specs.Said.{code}
 use Rattle.answers.specs.Laws.{reply-code, first_code, left-code}
-use Rattle.weighted_poly_fit.specs.Fitting.{Answered, Exact, Fitted, fit_with_of, lengths_cause}
+use Rattle.weighted_poly_fit.specs.Fitting.{Counted, Answered, Exact, Fitted, fit_with_of, lengths_cause}
 use Rattle.weighted_poly_fit.specs.Fits.{Called}
 use Rattle.theory.specs.ColumnCount.{columns-le-cells}
 
@@ -45,37 +45,9 @@ cube-low (suc k) d (suc j) = cube-low k d j
 
 -- ---- the parts
 
--- a cause before anything is eliminated leaves the tables
-pub fitted_refused : (f : Fit) (cause : ℕ) (r : Refusal) → cause ≡ code r → Fitted f cause f.matrix f.right f.out (refused (code r))
-fitted_refused f cause r e =
-    record {
-      says = reply-code r _ (first_code r (cond (fit_succeeds f) 0 10) e);
-      leaves_out = sym (left-code r _ f.out e);
-      leaves_matrix = sym (left-code r _ f.matrix e);
-      leaves_right = sym (left-code r _ f.right e);
-    }
-
--- the entries of the matrix, and the tests of the lengths, in the words of the code
-pub entries_eq : (f : Fit) {rows cols : ℕ} → rows ≡ fit_rows f → cols ≡ length (fit_columns_of f) → rows * cols ≡ fit_rows f * length (fit_columns_of f)
-entries_eq f r c = ap₂ ◌*◌ r c
-
-pub lengths-eq : (f : Fit) (rows entries count : ℕ) → rows ≡ fit_rows f → entries ≡ fit_rows f * length (fit_columns_of f) → count ≡ cells f.degrees
-    → (eqb (length f.weights) rows
-    && eqb (length f.targets) rows
-    && eqb (length f.matrix) entries
-    && eqb (length f.right) rows
-    && eqb (length f.out) count)
-    ≡ fit_lengths f
-lengths-eq f rows entries count e₁ e₂ e₃ =
-    ap₂ ◌&&◌
-    (ap₂
-    (λ (r n : ℕ). eqb (length f.weights) r && eqb (length f.targets) r && eqb (length f.matrix) n && eqb (length f.right) r) e₁ e₂)
-    (ap (eqb (length f.out)) e₃)
-
--- and what they say where they pass
-pub exact : (f : Fit) (cols : ℕ) → cols ≡ length (fit_columns_of f) → cells f.degrees ≤ fit_rows f → fit_rows f ≤ 65536
-    → fit_rows f * length (fit_columns_of f) ≤ 65536 → fit_lengths f ≡ true → Exact f cols
-exact f cols n h k l e =
+-- what the tests of the lengths say where they pass
+pub exact : (f : Fit) {rows cols : ℕ} → Counted rows cols f.most f.degrees f.grid → fit_lengths f ≡ true → Exact f cols
+exact f {rows} {cols} n e =
     let a = both _ (eqb (length f.out) (cells f.degrees)) e in
     let b = both _ (eqb (length f.right) (fit_rows f)) a.0 in
     let c = both _ (eqb (length f.matrix) (fit_rows f * length (fit_columns_of f))) b.0 in
@@ -84,28 +56,18 @@ exact f cols n h k l e =
     record {
       weights_long = eqb-true _ _ d.0;
       targets_long = eqb-true _ _ d.1;
-      matrix_long = m ∙ ap (fit_rows f *◌) (sym n);
+      matrix_long = m ∙ ap (fit_rows f *◌) (sym n.column_count);
       right_long = eqb-true _ _ b.1;
       out_long = eqb-true _ _ a.1;
-      counted = n;
-      columns_few = columns_few f.degrees f.most (fit_rows f) cols n h (le_trans (le_of_eq (ap (fit_rows f *◌) n)) l);
-      matrix_small = le_trans (le_of_eq m) l;
-      box_small = le_trans h k;
+      counted = n.column_count;
+      columns_few = columns_few f.degrees f.most rows cols n.column_count n.box_small n.matrix_small;
+      matrix_small = le_trans (le_of_eq (m ∙ sym (ap₂ ◌*◌ n.row_count n.column_count))) n.matrix_small;
+      box_small = le_trans n.box_small n.rows_few;
     }
   where
     both : (a b : Bool) → a && b ≡ true → (a ≡ true) × (b ≡ true)
     both true b p = (refl, p)
     both false b p = absurd (false≢true p)
-
--- an equal number of columns
-pub exact_columns : {f : Fit} {cols n : ℕ} → Exact f cols → cols ≡ n → Exact f n
-exact_columns {f} e p = subst (Exact f) p e
-
--- a fit without cause
-pub fitted_passed : (f : Fit) → fit_lengths f ≡ true → {matrix right out : List ℕ} {r : Reply}
-    → Fitted f 0 matrix right out r → Fitted f (lengths_cause f) matrix right out r
-fitted_passed f e {matrix} {right} {out} {r} k =
-    subst (λ (n : ℕ). Fitted f n matrix right out r) (sym (ap (λ (b : Bool). cond b 0 9) e)) k
 
 -- equal degrees
 module _ (w most : ℕ) (weights targets matrix₀ right₀ out₀ : List ℕ) where

@@ -1,5 +1,5 @@
 -- The columns of the fit's matrix, one after the other, and each column by the sub-boxes of the last variable of the grid.
-use mathlib.Core.Path.{◌≡◌, refl, sym, ap, ap₂, ◌∙◌}
+use mathlib.Core.Path.{◌≡◌, refl, sym, ap, ap₂, subst, ◌∙◌}
 use mathlib.Core.Logic.{◌⊎◌, inl, inr}
 use mathlib.Core.List.{List, [], ◌∷◌}
 use Prim.Native.Nat.{ℕ, suc, ◌+◌, ◌*◌, ◌-◌, ◌%◌, ◌^◌, ◌≤◌, ◌<◌, min, zero-le}
@@ -21,14 +21,29 @@ use Rattle.theory.specs.Words.{masked_to}
 use Rattle.theory.specs.LastVariable.{others, final, length-others, product_point}
 use Rattle.theory.specs.MatrixTables.{flat, eq_matrix}
 use Rattle.theory.specs.Tables.{at-tabulate-zero}
-use Rattle.box_rows.specs.Walks.{Walk, walk_exponent}
+use Rattle.box_rows.specs.Walks.{Walk, walk_all, walk_size, walk_exponent, walk_end}
 use Rattle.weighted_poly_fit.specs.Entries.{weighed, fallen, Tabled, column_entry, Columned, ZeroColumn}
+
+-- ---- a walk over sub-boxes, counted by the last exponent
+
+module _ {ds : List ℕ} {n size e from : ℕ} (w : Walk ds n size e from) where
+  pub walk_at : Walk ds n size e (e * size)
+  walk_at = subst (λ (f : ℕ). Walk ds n size e f) w.place w
+
+  pub walk_inside : e < final ds + 1 → from < n
+  walk_inside h = omega (arith, w.place, walk_all w, walk_size w, mul-le-mul_right size h)
+
+  pub walk_whole : final ds + 1 ≤ e → from ≡ n
+  walk_whole h = walk_end w (omega (arith, w.place, walk_all w, mul-le-mul_right size h))
 
 -- ---- a column, row by row and part by part
 
 module _ {cols c : ℕ} {f : ℕ → ℕ} {m₀ : List ℕ} where
   pub column_start : Columned cols c f m₀ m₀ 0
   column_start = record { same = refl; below = λ i h. absurd (not-suc-le-zero h); above = λ i h. refl; beside = λ i b h n. refl }
+
+  pub column_none : {r : ℕ} → r ≡ 0 → Columned cols c f m₀ m₀ r
+  column_none e = rw e column_start
 
   pub column_eq : {g : ℕ → ℕ} {m : List ℕ} {r : ℕ} → Columned cols c f m₀ m r → ((i : ℕ) → i < r → f i ≡ g i) → Columned cols c g m₀ m r
   column_eq k h = record { same = k.same; below = λ i l. k.below i l ∙ h i l; above = k.above; beside = k.beside }

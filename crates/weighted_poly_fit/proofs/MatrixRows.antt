@@ -1,5 +1,5 @@
 -- Rows of falling factorials: where they are zero, and each times its weight.
-use mathlib.Core.Path.{◌≡◌, sym, ap, ◌∙◌}
+use mathlib.Core.Path.{◌≡◌, sym, ap, subst, ◌∙◌}
 use mathlib.Core.List.{List}
 use Prim.Native.Nat.{ℕ, ◌+◌, ◌*◌, ◌-◌, ◌%◌, ◌^◌, ◌≤◌, ◌<◌, min}
 use native.Mathlib.Nat.{mul_comm, zero-mod, mul-zero, lt_of_not-le}
@@ -9,10 +9,17 @@ use lib.Bits.{bit_and}
 use lib.ListN.{length, set}
 use Rattle.meaning.specs.Tables.{at, tabulate}
 use Rattle.theory.specs.Tables.{at-tabulate, eq-tabulate, Filled, filled_start, filled_step, filled_done}
+use Rattle.theory.specs.FilledRows.{Rows}
 use Rattle.theory.specs.MatrixTables.{flat, flat-entry}
 use Rattle.theory.specs.Words.{masked_to}
 use Rattle.theory.specs.FallingProducts.{zero_stays}
 use Rattle.weighted_poly_fit.specs.Entries.{fallen, ZeroOn, Products}
+
+-- ---- rows that are filled one after the other
+
+-- the place of the next row
+pub rows_at : {E : ℕ → ℕ → ℕ} {rows cols : ℕ} {m₀ m : List ℕ} {from i : ℕ} → Rows E rows cols m₀ m from i → Rows E rows cols m₀ m (i * cols) i
+rows_at {E} {rows} {cols} {m₀} {m} {from} {i} r = subst (λ (n : ℕ). Rows E rows cols m₀ m n i) r.place r
 
 -- ---- a row of falling factorials times its weight
 

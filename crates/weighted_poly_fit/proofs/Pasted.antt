@@ -1,19 +1,24 @@
 -- A list pasted into a table, and another behind it.
 use mathlib.Core.Path.{◌≡◌, sym, ap, ap₂, ◌∙◌}
 use mathlib.Core.List.{List, [], ◌++◌, append_assoc}
-use Prim.Native.Nat.{ℕ, ◌+◌, ◌≤◌}
+use Prim.Native.Nat.{ℕ, ◌+◌, ◌-◌, ◌≤◌}
 use native.Mathlib.Omega.{arith}
 use lib.ListN.{length, take, drop, length-append, length-take, length-drop}
-use lib.Seq.{length-take-le, take_at, drop-append-add, drop-drop, paste, paste-zero, take-length}
+use lib.Seq.{length-take-le, take_at, drop-append-add, drop-drop, paste-zero}
+use Rattle.theory.specs.Parts.{put}
 use Rattle.weighted_poly_fit.specs.Listing.{pasted}
 
 -- nothing pasted
 pub pasted_none : (t : List ℕ) (a : ℕ) → t ≡ pasted t a []
 pasted_none t a = paste-zero t a []
 
--- the copy of a whole list
-pub pasted_whole : (t : List ℕ) (a : ℕ) (xs : List ℕ) → paste t a xs (length xs) ≡ pasted t a xs
-pasted_whole t a xs = ap (λ (l : List ℕ). take a t ++ l ++ drop (a + length xs) t) (take-length xs)
+-- a list that takes the place of the part there
+pub pasted_part : (t : List ℕ) (a : ℕ) (xs : List ℕ) {ys : List ℕ} → ys ≡ xs → put a (a + length xs) t ys ≡ pasted t a xs
+pasted_part t a xs e =
+    let n : a + length xs - a ≡ length xs = omega arith in
+    ap (put a (a + length xs) t) e
+    ∙ ap (λ (r : List ℕ). take a t ++ (xs ++ r)) (ap (λ (k : ℕ). drop k (drop a t)) n ∙ drop-drop (length xs) a t)
+    ∙ sym (append_assoc (take a t) xs (drop (a + length xs) t))
 
 module _ (t : List ℕ) (a : ℕ) (xs : List ℕ) where
   head_length : a ≤ length t → length (take a t ++ xs) ≡ a + length xs

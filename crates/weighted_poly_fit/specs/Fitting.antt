@@ -6,7 +6,7 @@ use Rattle.meaning.specs.Replies.{Reply}
 use Rattle.meaning.specs.Settings.{fits_width, first}
 use Rattle.meaning.specs.Calls.{reply, left}
 use Rattle.meaning.specs.Elimination.{eliminated, substituted, succeeds}
-use Rattle.meaning.specs.Fit.{fit_box_of, degree_used_of, Fit, fit_rows, fit_columns_of, fit_lengths, fit_succeeds, fit_answer}
+use Rattle.meaning.specs.Fit.{columns, fit_box_of, degree_used_of, Fit, fit_rows, fit_columns_of, fit_lengths, fit_succeeds, fit_answer}
 
 -- ---- the system
 
@@ -21,6 +21,14 @@ pub record Shaped (w side size : ℕ) (ds gs : List ℕ) : Type 0 where
   pub products_few : side * size ≤ 362
   pub below : (j : ℕ) → j < length ds → at ds j < size
   pub grid_below : 1 < length gs → (j : ℕ) → j < length gs → at gs j < side
+
+-- how many rows and columns a fit has, as its settings leave them: there are no more cells of the box than rows, and the matrix is small
+pub record Counted (rows cols most : ℕ) (ds gs : List ℕ) : Type 0 where
+  pub row_count : rows ≡ cells gs
+  pub rows_few : rows ≤ 65536
+  pub box_small : cells ds ≤ rows
+  pub column_count : cols ≡ length (columns ds most)
+  pub matrix_small : rows * cols ≤ 65536
 
 -- a matrix and a right side that the solver takes, with a value in x for each column
 pub record Solvable (w : ℕ) (mat rhs x : List ℕ) : Type 0 where

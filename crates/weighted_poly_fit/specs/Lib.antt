@@ -3,5 +3,6 @@
 pub mod Listing
 pub mod Entries
 pub mod Fitting
+pub mod Asked
 pub mod Fits
 pub mod FitsLaws

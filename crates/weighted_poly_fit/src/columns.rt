@@ -3,21 +3,7 @@
 ghost use Rattle.std.specs.Prelude.{◌≡◌, ◌+◌, ◌*◌, ◌≤◌, length};
 ghost use Rattle.meaning.specs.Elimination.{joined};
 ghost use Rattle.meaning.specs.Fit.{columns};
-ghost use Rattle.weighted_poly_fit.specs.Listing.{pasted, listing, exponents_before, Listed};
-
-use room::sizes;
-
-// Copies a list of exponents into the table, from place `at` on.
-fn write_list(table: &mut [u8], at: usize, list: &[u8])
-    requires { at + length list.now ≤ length table.old }
-    ensures { table.new ≡ pasted table.old at list.now }
-{
-    let mut i = 0;
-    while i < list.len() {
-        table[at + i] = list[i];
-        i += 1;
-    }
-}
+ghost use Rattle.weighted_poly_fit.specs.Listing.{listing, exponents_before, Listed};
 
 // Writes the exponent lists with the sum `left` in the variables that remain, those of `degrees`, each behind the exponents that `current` has for the
 // variables before, from place `at` of the table on. The result is the place behind the last. `current` keeps the exponents of the variables before;
@@ -34,20 +20,19 @@ fn enumerate_basis_recurse(
     ensures { Listed table.old at current.old degrees.now left table.new current.new result }
 {
     if degrees.len() == 0 {
-        if left == 0 {
-            write_list(table, at, current);
-            return at + current.len();
+        if left != 0 {
+            return at;
         }
-        return at;
+        let end = at + current.len();
+        table[at..end].copy_from_slice(current);
+        return end;
     }
     let place = current.len() - degrees.len();
-    let highest = sizes::lesser(degrees[0] as usize, left);
+    let highest = (degrees[0] as usize).min(left);
     let mut next = at;
-    let mut e = 0;
-    while e <= highest {
+    for e in 0..=highest {
         current[place] = e as u8;
         next = enumerate_basis_recurse(table, next, current, &degrees[1..], left - e);
-        e += 1;
     }
     next
 }
@@ -61,9 +46,7 @@ pub(crate) fn enumerate_basis(table: &mut [u8], current: &mut [u8], degrees: &[u
 {
     let last = most as usize;
     let mut next = 0;
-    let mut degree = 0;
-    while degree <= last {
+    for degree in 0..=last {
         next = enumerate_basis_recurse(table, next, current, degrees, degree);
-        degree += 1;
     }
 }

@@ -1,133 +1,88 @@
 // The weighted fit: coefficients of falling factorials whose value at each grid point, times the weight there, is the target there, modulo 2^w.
-ghost use Rattle.std.specs.Prelude.{◌≡◌, ◌&&◌, cond, ◌+◌, ◌*◌, ◌≤◌, min, eqb, length};
-ghost use Rattle.meaning.specs.Boxes.{cells};
-ghost use Rattle.meaning.specs.Settings.{cube};
-ghost use Rattle.meaning.specs.Fit.{columns, fit_of};
-ghost use Rattle.weighted_poly_fit.specs.Fitting.{Shaped, Exact, Fitted, fit_with_of, lengths_cause};
+ghost use Rattle.std.specs.Prelude.{◌≡◌, cond, ◌+◌, ◌*◌, eqb, length};
+ghost use Rattle.meaning.specs.Fit.{fit_of, fit_lengths};
+ghost use Rattle.settings.specs.Forms.{degrees_of};
+ghost use Rattle.room.specs.Sizes.{answer_of, grid_of};
+ghost use Rattle.weighted_poly_fit.specs.Fitting.{Shaped, Counted, Exact, Fitted, lengths_cause};
 ghost use Rattle.weighted_poly_fit.specs.Fits.{Called, Fits};
 ghost use Rattle.answers.specs.Said.{said};
 
-use crate::{rooms, systems};
-use answers::{Number, Refusal};
+use answers::Refusal;
 use room::sizes;
-use room::sizes::FitRoom;
+use room::sizes::FitSettings;
 
-// A fit whose tables have their exact lengths, with room for the falling factorials of the coordinates, for the exponents and for the values of the columns.
-// Matrix and right side end as zeros.
-pub(crate) fn fit_with(
-    weights: &[u64],
-    targets: &[u64],
-    degrees: &[u8],
-    grid: &[u8],
-    most: u8,
-    side: usize,
-    size: usize,
-    bitwidth: u32,
-    products: &mut [u64],
-    exponents: &mut [u8],
-    values: &mut [u64],
-    matrix: &mut [u64],
-    right: &mut [u64],
-    out: &mut [u64],
-) -> Number
-    requires shaped { Shaped bitwidth side size degrees.now grid.now }
-    requires exact { Exact (fit_with_of bitwidth degrees.now grid.now most weights.now targets.now matrix.old right.old out.old) (length values.old) }
-    requires exponents_len { (length exponents.old ≡ length values.old * length degrees.now) × (length products.old ≡ side * size) }
-    ensures { Fitted (fit_with_of bitwidth degrees.now grid.now most weights.now targets.now
-        matrix.old right.old out.old) 0 matrix.new right.new out.new (said result) }
-{
-    systems::fill_system(
-        products,
-        exponents,
-        matrix,
-        right,
-        weights,
-        targets,
-        degrees,
-        grid,
-        most,
-        values.len(),
-        side,
-        size,
-        bitwidth,
-    );
-    let found = systems::answer_system(
-        matrix, right, values, out, exponents, degrees, most, bitwidth,
-    );
-    tables::clear(matrix);
-    tables::clear(right);
-    found
+// What the parts of a fit are given, once its settings pass: the tables that are fitted to, with an entry for each of the `rows` grid points; the degrees of
+// the answer's box, all below `size`, and those of the grid, with two variables or more all below `side`; the highest sum of exponents, with the `cols`
+// columns that it leaves; and the width. The scratch tables and the output are lent beside it, each by itself: as fields of a struct each would need a clause,
+// in every contract that it passes, that it is the same reference still.
+#[derive(Drop)]
+pub(crate) struct Given<'a> {
+    pub(crate) weights: &'a [u64],
+    pub(crate) targets: &'a [u64],
+    pub(crate) degrees: &'a [u8],
+    pub(crate) grid: &'a [u8],
+    pub(crate) most: u8,
+    pub(crate) rows: usize,
+    pub(crate) cols: usize,
+    pub(crate) side: usize,
+    pub(crate) size: usize,
+    pub(crate) bitwidth: u32,
+    ghost shaped: { Shaped bitwidth side size degrees.now grid.now },
+    ghost counted: { Counted rows cols most degrees.now grid.now },
 }
 
-// Whether every table has its exact length.
-fn lengths_fit(
-    weights: &[u64],
-    targets: &[u64],
-    matrix: &[u64],
-    right: &[u64],
-    out: &[u64],
-    rows: usize,
-    entries: usize,
-    count: usize,
-) -> bool
-    ensures { result ≡ (eqb (length weights.now) rows && eqb (length targets.now) rows
-        && eqb (length matrix.now) entries && eqb (length right.now) rows && eqb (length out.now) count) }
-{
-    if weights.len() != rows {
-        return false;
-    }
-    if targets.len() != rows {
-        return false;
-    }
-    if matrix.len() != entries {
-        return false;
-    }
-    if right.len() != rows {
-        return false;
-    }
-    out.len() == count
-}
+impl Given<'_> {
+    ghost use Rattle.weighted_poly_fit.specs.Asked.{given_fit};
 
-// A fit whose settings pass, with as many rows and columns as they say. Turned down for 9, with the tables left as they were.
-fn fit_box(
-    weights: &[u64],
-    targets: &[u64],
-    degrees: &[u8],
-    grid: &[u8],
-    most: u8,
-    rows: usize,
-    cols: usize,
-    side: usize,
-    size: usize,
-    bitwidth: u32,
-    matrix: &mut [u64],
-    right: &mut [u64],
-    out: &mut [u64],
-) -> Number
-    requires shaped { Shaped bitwidth side size degrees.now grid.now }
-    requires rows_value { (rows ≡ cells grid.now) × (rows ≤ 65536) × (cells degrees.now ≤ rows) × (cols ≡ length (columns degrees.now most)) × (rows * cols ≤ 65536) }
-    ensures { Fitted (fit_with_of bitwidth degrees.now grid.now most weights.now targets.now
-        matrix.old right.old out.old)
-        (lengths_cause (fit_with_of bitwidth degrees.now grid.now most weights.now targets.now
-        matrix.old right.old out.old))
-        matrix.new right.new out.new (said result) }
-{
-    let count = settings::count_cells(degrees, settings::TABLE_LIMIT) as usize;
-    if !lengths_fit(
-        weights,
-        targets,
-        matrix,
-        right,
-        out,
-        rows,
-        rows * cols,
-        count,
-    ) {
-        return Number::Refused(Refusal::WrongLength);
+    // A fit whose tables have their exact lengths, with room for the falling factorials of the coordinates, for the exponents and for the values of the
+    // columns. Matrix and right side end as zeros.
+    pub(crate) fn fit_with(
+        &self,
+        products: &mut [u64],
+        exponents: &mut [u8],
+        values: &mut [u64],
+        matrix: &mut [u64],
+        right: &mut [u64],
+        out: &mut [u64],
+    ) -> Result<u64, Refusal>
+        requires exact { Exact (given_fit self.now matrix.old right.old out.old) self.now.cols }
+        requires lengths { (length values.old ≡ self.now.cols) × (length exponents.old ≡ self.now.cols * length self.now.degrees.now)
+            × (length products.old ≡ self.now.side * self.now.size) }
+        ensures { Fitted (given_fit self.now matrix.old right.old out.old) 0 matrix.new right.new out.new (said result) }
+    {
+        self.fill_system(products, exponents, matrix, right);
+        let found = self.answer_system(exponents, matrix, right, values, out);
+        tables::clear(matrix);
+        tables::clear(right);
+        found
     }
-    rooms::fit_tables(
-        weights, targets, degrees, grid, most, cols, side, size, bitwidth, matrix, right, out,
-    )
+
+    // Whether every table has its exact length.
+    fn lengths_fit(&self, matrix: &[u64], right: &[u64], out: &[u64]) -> bool
+        ensures { result ≡ fit_lengths (given_fit self.now matrix.now right.now out.now) }
+    {
+        let cells = settings::count_cells(self.degrees, settings::TABLE_LIMIT) as usize;
+        self.weights.len() == self.rows
+            && self.targets.len() == self.rows
+            && matrix.len() == self.rows * self.cols
+            && right.len() == self.rows
+            && out.len() == cells
+    }
+
+    // A fit whose settings pass. Turned down for 9, with the tables left as they were.
+    fn fit_box(
+        &self,
+        matrix: &mut [u64],
+        right: &mut [u64],
+        out: &mut [u64],
+    ) -> Result<u64, Refusal>
+        ensures { let asked = given_fit self.now matrix.old right.old out.old in Fitted asked (lengths_cause asked) matrix.new right.new out.new (said result) }
+    {
+        if !self.lengths_fit(matrix, right, out) {
+            return Err(Refusal::WrongLength);
+        }
+        self.fit_tables(matrix, right, out)
+    }
 }
 
 // How many coordinates have their falling factorials in a table: with two variables or more those of the grid, and with one none, since none recurs.
@@ -144,45 +99,31 @@ fn tabled(variables: usize, grid_degree: u8) -> usize
 fn weighted_fit(
     weights: &[u64],
     targets: &[u64],
-    support: &[u64],
-    total: u32,
-    bitwidth: u32,
-    max_degree: u8,
-    grid_degree: u8,
+    settings: &FitSettings,
     matrix: &mut [u64],
     right: &mut [u64],
     out: &mut [u64],
-) -> Number
-    ensures { Called (fit_of total bitwidth support.now max_degree grid_degree weights.now targets.now
+) -> Result<u64, Refusal>
+    ensures { let s = settings.now in Called (fit_of s.total s.bitwidth s.support.now s.max_degree s.grid_degree weights.now targets.now
         matrix.old right.old out.old) matrix.new right.new out.new (said result) }
 {
-    match sizes::fit_room(support, total, bitwidth, max_degree, grid_degree) {
-        FitRoom::Refused(refusal) => Number::Refused(refusal),
-        FitRoom::Counts {
-            rows,
-            columns,
-            entries,
-        } => {
-            let degree = sizes::lesser_degree(max_degree, grid_degree);
-            let degrees = [degree; 20];
-            let grid = [grid_degree; 20];
-            fit_box(
-                weights,
-                targets,
-                &degrees[..support.len()],
-                &grid[..support.len()],
-                max_degree,
-                rows as usize,
-                columns as usize,
-                tabled(support.len(), grid_degree),
-                degree as usize + 1,
-                bitwidth,
-                matrix,
-                right,
-                out,
-            )
-        }
-    }
+    let room = sizes::fit_room(settings)?;
+    let answer = settings.answer();
+    let degrees = answer.degrees();
+    let grid = settings.grid().degrees();
+    let given = Given {
+        weights,
+        targets,
+        degrees: degrees.as_slice(),
+        grid: grid.as_slice(),
+        most: settings.max_degree,
+        rows: room.rows as usize,
+        cols: room.columns as usize,
+        side: tabled(settings.support.len(), settings.grid_degree),
+        size: answer.max_degree as usize + 1,
+        bitwidth: settings.bitwidth,
+    };
+    given.fit_box(matrix, right, out)
 }
 
 // Fits a polynomial in falling factorials to weighted targets on the grid {0, .., grid_degree} over the support variables, modulo 2^bitwidth: exponents
@@ -195,30 +136,15 @@ fn weighted_fit(
 pub fn recover_weighted_poly(
     weights: &[u64],
     targets: &[u64],
-    support: &[u64],
-    total: u32,
-    bitwidth: u32,
-    max_degree: u8,
-    grid_degree: u8,
+    settings: &FitSettings,
     matrix: &mut [u64],
     right: &mut [u64],
     out: &mut [u64],
-) -> Number
-    ensures calls { Called (fit_of total bitwidth support.now max_degree grid_degree weights.now targets.now
+) -> Result<u64, Refusal>
+    ensures calls { let s = settings.now in Called (fit_of s.total s.bitwidth s.support.now s.max_degree s.grid_degree weights.now targets.now
         matrix.old right.old out.old) matrix.new right.new out.new (said result) }
-    ensures fits { Fits bitwidth (cube support.now (min max_degree grid_degree)) (cube support.now grid_degree) max_degree
+    ensures fits { let s = settings.now in Fits s.bitwidth (degrees_of (answer_of s)) (degrees_of (grid_of s)) s.max_degree
         weights.now targets.now (said result).number (said result).value out.new }
 {
-    weighted_fit(
-        weights,
-        targets,
-        support,
-        total,
-        bitwidth,
-        max_degree,
-        grid_degree,
-        matrix,
-        right,
-        out,
-    )
+    weighted_fit(weights, targets, settings, matrix, right, out)
 }

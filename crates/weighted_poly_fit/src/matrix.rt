@@ -4,22 +4,25 @@ ghost use Rattle.std.specs.Prelude.{◌≡◌, true, ℕ, ◌+◌, ◌*◌, ◌%
 ghost use Rattle.meaning.specs.Tables.{at, tabulate};
 ghost use Rattle.meaning.specs.Boxes.{cells};
 ghost use Rattle.meaning.specs.Settings.{fits_width};
+ghost use Rattle.meaning.specs.Elimination.{joined};
+ghost use Rattle.meaning.specs.Fit.{columns};
 ghost use Rattle.weighted_poly_fit.specs.Entries.{weighed, fallen, ZeroOn, Products, Tabled, column_entry, Columned, ZeroColumn};
 ghost use Rattle.theory.specs.MatrixTables.{flat};
 
+use crate::fit::Given;
+
 // Fills the table with the falling factorials of the coordinates 0, 1, .., below `side`, to the exponents 0, 1, .., below `size`, modulo 2^bitwidth, one
 // coordinate behind the other. Each stops at its first zero.
-pub(crate) fn fill_products(table: &mut [u64], side: usize, size: usize, bitwidth: u32)
+fn fill_products(table: &mut [u64], side: usize, size: usize, bitwidth: u32)
     requires { (length table.old ≡ side * size) × (fits_width bitwidth ≡ true) }
     ensures { table.new ≡ tabulate (length table.old) (flat size (fallen bitwidth)) }
 {
-    let mut from = 0;
-    let mut x = 0;
-    while x < side {
-        let end = from + size;
-        math_utils::falling::falling_products(x as u64, bitwidth, &mut table[from..end]);
-        from = end;
-        x += 1;
+    // rows by their place, here and below: of chunks that are lent to be written a proof learns the length alone
+    for x in 0..side {
+        let from = x * size;
+        let row = &mut table[from..from + size];
+        // not refused: the width fits
+        let _ = math_utils::falling::falling_products(x as u64, bitwidth, row);
     }
 }
 
@@ -29,13 +32,11 @@ fn weigh(row: &mut [u64], weight: u64, bitwidth: u32)
     ensures { row.new ≡ tabulate (length row.old) (λ e. (weight * at row.old e) % 2 ^ bitwidth) }
 {
     let mask = arith::bitmask(bitwidth);
-    let mut e = 0;
-    while e < row.len() {
-        if row[e] == 0 {
+    for entry in row.iter_mut() {
+        if *entry == 0 {
             return;
         }
-        row[e] = arith::wrapping_mul(row[e], weight) & mask;
-        e += 1;
+        *entry = arith::wrapping_mul(*entry, weight) & mask;
     }
 }
 
@@ -46,170 +47,126 @@ fn weigh_rows(matrix: &mut [u64], weights: &[u64], cols: usize, bitwidth: u32)
     ensures { matrix.new ≡ tabulate (length matrix.old)
         (flat cols (λ i c. (at weights.now i * fallen bitwidth i c) % 2 ^ bitwidth)) }
 {
-    let mut from = 0;
-    let mut i = 0;
-    while i < weights.len() {
-        let end = from + cols;
-        weigh(&mut matrix[from..end], weights[i], bitwidth);
-        from = end;
-        i += 1;
+    for (i, weight) in weights.iter().enumerate() {
+        let from = i * cols;
+        weigh(&mut matrix[from..from + cols], *weight, bitwidth);
     }
 }
 
-// Fills column c of the rows of one variable, which is zero: in the row of coordinate x the value times the falling factorial of x to the exponent e, times
-// the weight, modulo 2^bitwidth. `products` has the falling factorials, `size` of each coordinate.
-fn fill_line(
-    matrix: &mut [u64],
-    weights: &[u64],
-    e: usize,
-    products: &[u64],
+// A column of the matrix as it is filled: its exponents, and its place c among `cols`. `products` has the falling factorials, `size` of each coordinate.
+#[derive(Drop)]
+struct Column<'a> {
+    exps: &'a [u8],
+    products: &'a [u64],
     size: usize,
     cols: usize,
     c: usize,
-    value: u64,
     bitwidth: u32,
-)
-    requires matrix_len { (length matrix.old ≡ length weights.now * cols) × (c < cols) × (bitwidth ≤ 64) }
-    requires e_lt_size { (e < size) × (length weights.now * size ≤ length products.now) }
-    requires products { Products bitwidth size products.now × ZeroColumn (length weights.now) cols c matrix.old }
-    ensures { Columned cols c (λ x. (at weights.now x * (value * fallen bitwidth x e)) % 2 ^ bitwidth) matrix.old
-        matrix.new (length weights.now) }
-{
-    let mask = arith::bitmask(bitwidth);
-    let mut x = 0;
-    while x < weights.len() {
-        let product = arith::wrapping_mul(value, products[x * size + e]) & mask;
-        if product != 0 {
-            matrix[x * cols + c] = arith::wrapping_mul(product, weights[x]) & mask;
+    ghost narrow: { bitwidth ≤ 64 },
+    ghost inside: { c < cols },
+    ghost holds: { Products bitwidth size products.now },
+}
+
+impl Column<'_> {
+    // Fills the column in the rows of one variable, where it is zero: in the row of coordinate x the value times the falling factorial of x to the exponent e,
+    // times the weight, modulo 2^bitwidth.
+    fn fill_line(&self, matrix: &mut [u64], weights: &[u64], e: usize, value: u64)
+        requires matrix_len { length matrix.old ≡ length weights.now * self.now.cols }
+        requires e_lt_size { (e < self.now.size) × (length weights.now * self.now.size ≤ length self.now.products.now) }
+        requires zero { ZeroColumn (length weights.now) self.now.cols self.now.c matrix.old }
+        ensures { let k = self.now in
+            Columned k.cols k.c (λ x. (at weights.now x * (value * fallen k.bitwidth x e)) % 2 ^ k.bitwidth) matrix.old matrix.new (length weights.now) }
+    {
+        let mask = arith::bitmask(self.bitwidth);
+        // the fields as variables: read anew in each turn, since the matrix is written between, they cost a fit of 256 x 35 a fifth
+        let (products, size) = (self.products, self.size);
+        let (cols, c) = (self.cols, self.c);
+        for (x, weight) in weights.iter().enumerate() {
+            let product = arith::wrapping_mul(value, products[x * size + e]) & mask;
+            if product != 0 {
+                matrix[x * cols + c] = arith::wrapping_mul(product, *weight) & mask;
+            }
         }
-        x += 1;
+    }
+
+    // Fills the column in the rows of a grid, where it is zero: in each row the value times the falling factorials of the coordinates to the exponents, times
+    // the weight, modulo 2^bitwidth. It goes over the sub-boxes of the last variable, and into none where the product is zero.
+    fn fill(&self, matrix: &mut [u64], weights: &[u64], grid: &[u8], value: u64)
+        requires matrix_len { length matrix.old ≡ length weights.now * self.now.cols }
+        requires weights_len { (length weights.now ≡ cells grid.now) × (0 < length grid.now) × (length grid.now ≤ length self.now.exps.now) }
+        requires tabled { let k = self.now in Tabled grid.now k.exps.now k.size k.products.now × ZeroColumn (length weights.now) k.cols k.c matrix.old }
+        ensures { let k = self.now in
+            Columned k.cols k.c (column_entry k.bitwidth value grid.now k.exps.now weights.now) matrix.old matrix.new (length weights.now) }
+    {
+        let last = grid.len() - 1;
+        let e = self.exps[last] as usize;
+        if last == 0 {
+            self.fill_line(matrix, weights, e, value);
+            return;
+        }
+        let mask = arith::bitmask(self.bitwidth);
+        let count = grid[last] as usize + 1;
+        let rows = weights.len() / count;
+        let (products, size, cols) = (self.products, self.size, self.cols);
+        for x in 0..count {
+            let product = arith::wrapping_mul(value, products[x * size + e]) & mask;
+            if product != 0 {
+                let from = x * rows;
+                let end = from + rows;
+                self.fill(
+                    &mut matrix[from * cols..end * cols],
+                    &weights[from..end],
+                    &grid[..last],
+                    product,
+                );
+            }
+        }
     }
 }
 
-// Fills column c of the rows of a grid, which is zero: in each row the value times the falling factorials of the coordinates to the exponents of the column,
-// times the weight, modulo 2^bitwidth. It goes over the sub-boxes of the last variable, and into none where the product is zero.
-pub(crate) fn fill_column(
-    matrix: &mut [u64],
-    weights: &[u64],
-    grid: &[u8],
-    exps: &[u8],
-    products: &[u64],
-    size: usize,
-    cols: usize,
-    c: usize,
-    value: u64,
-    bitwidth: u32,
-)
-    requires matrix_len { (length matrix.old ≡ length weights.now * cols) × (c < cols) × (bitwidth ≤ 64) }
-    requires weights_len { (length weights.now ≡ cells grid.now) × (0 < length grid.now) × (length grid.now ≤ length exps.now) }
-    requires tabled { Tabled grid.now exps.now size products.now × Products bitwidth size products.now × ZeroColumn (length weights.now) cols c matrix.old }
-    ensures { Columned cols c (column_entry bitwidth value grid.now exps.now weights.now) matrix.old
-        matrix.new (length weights.now) }
-{
-    let last = grid.len() - 1;
-    let e = exps[last] as usize;
-    if last == 0 {
-        fill_line(matrix, weights, e, products, size, cols, c, value, bitwidth);
-        return;
-    }
-    let mask = arith::bitmask(bitwidth);
-    let rows = weights.len() / (grid[last] as usize + 1);
-    let mut x = 0;
-    let mut from = 0;
-    while from < weights.len() {
-        let end = from + rows;
-        let product = arith::wrapping_mul(value, products[x * size + e]) & mask;
-        if product != 0 {
-            fill_column(
-                &mut matrix[from * cols..end * cols],
-                &weights[from..end],
-                &grid[..last],
-                exps,
+impl Given<'_> {
+    // Fills the matrix column by column, from zero. `columns` has the exponents of the columns, one column behind the other.
+    fn fill_columns(&self, products: &[u64], columns: &[u8], matrix: &mut [u64])
+        requires matrix_len { let g = self.now in (length matrix.old ≡ length g.weights.now * g.cols) × (length columns.now ≡ g.cols * length g.grid.now) }
+        requires weights_len { let g = self.now in (length g.weights.now ≡ cells g.grid.now) × Products g.bitwidth g.size products.now }
+        requires below { (i : ℕ) → i < length columns.now → at columns.now i < self.now.size }
+        requires tabled { let g = self.now in (j : ℕ) → j < length g.grid.now → (at g.grid.now j + 1) * g.size ≤ length products.now }
+        ensures { let g = self.now in matrix.new ≡ tabulate (length matrix.old) (flat g.cols (weighed g.bitwidth g.grid.now columns.now g.weights.now)) }
+    {
+        tables::clear(matrix);
+        let variables = self.grid.len();
+        for c in 0..self.cols {
+            let from = c * variables;
+            let column = Column {
+                exps: &columns[from..from + variables],
                 products,
-                size,
-                cols,
+                size: self.size,
+                cols: self.cols,
                 c,
-                product,
-                bitwidth,
-            );
+                bitwidth: self.bitwidth,
+            };
+            column.fill(matrix, self.weights, self.grid, 1);
         }
-        from = end;
-        x += 1;
     }
-}
 
-// Fills the matrix column by column, from zero.
-fn fill_columns(
-    matrix: &mut [u64],
-    weights: &[u64],
-    grid: &[u8],
-    columns: &[u8],
-    cols: usize,
-    products: &[u64],
-    size: usize,
-    bitwidth: u32,
-)
-    requires matrix_len { (length matrix.old ≡ length weights.now * cols) × (length columns.now ≡ cols * length grid.now) × (bitwidth ≤ 64) }
-    requires weights_len { (length weights.now ≡ cells grid.now) × (0 < length grid.now) × Products bitwidth size products.now }
-    requires by_index { (i : ℕ) → i < length columns.now → at columns.now i < size }
-    requires by_index_2 { (j : ℕ) → j < length grid.now → (at grid.now j + 1) * size ≤ length products.now }
-    ensures { matrix.new ≡ tabulate (length matrix.old)
-        (flat cols (weighed bitwidth grid.now columns.now weights.now)) }
-{
-    tables::clear(matrix);
-    let mut from = 0;
-    let mut c = 0;
-    while c < cols {
-        let end = from + grid.len();
-        fill_column(
-            matrix,
-            weights,
-            grid,
-            &columns[from..end],
-            products,
-            size,
-            cols,
-            c,
-            1,
-            bitwidth,
-        );
-        from = end;
-        c += 1;
+    // Fills the matrix: the row of grid cell i has the weight of that cell times the falling factorials of its coordinates to the exponents of each column,
+    // modulo 2^bitwidth. `exponents` has the exponents of the columns, one column behind the other. Of one variable each row has its own coordinate, and
+    // column c the exponent c. Of more the coordinates recur, and `products`, `size` places for each coordinate below `side`, is filled with their falling
+    // factorials first.
+    pub(crate) fn fill_matrix(&self, products: &mut [u64], exponents: &[u8], matrix: &mut [u64])
+        requires tables { let g = self.now in (length products.old ≡ g.side * g.size) × (length g.weights.now ≡ cells g.grid.now) }
+        requires matrix_len { length matrix.old ≡ length self.now.weights.now * self.now.cols }
+        requires listed { exponents.now ≡ joined (columns self.now.degrees.now self.now.most) }
+        ensures { let g = self.now in matrix.new ≡ tabulate (length matrix.old) (flat g.cols (weighed g.bitwidth g.grid.now exponents.now g.weights.now)) }
+    {
+        if self.grid.len() == 1 {
+            fill_products(matrix, self.weights.len(), self.cols, self.bitwidth);
+            weigh_rows(matrix, self.weights, self.cols, self.bitwidth);
+            return;
+        }
+        fill_products(products, self.side, self.size, self.bitwidth);
+        self.fill_columns(products, exponents, matrix);
     }
-}
-
-// Fills the matrix: the row of grid cell i has the weight of that cell times the falling factorials of its coordinates to the exponents of each column,
-// modulo 2^bitwidth. `columns` has the exponents of the columns, `cols` of them, one column behind the other, all below `size`. Of one variable each row has
-// its own coordinate, and column c the exponent c. Of more the coordinates recur, and `products`, `size` places for each coordinate below `side`, is filled
-// with their falling factorials first.
-pub(crate) fn fill_matrix(
-    matrix: &mut [u64],
-    weights: &[u64],
-    grid: &[u8],
-    columns: &[u8],
-    cols: usize,
-    side: usize,
-    size: usize,
-    products: &mut [u64],
-    bitwidth: u32,
-)
-    requires products_len { (length products.old ≡ side * size) × (fits_width bitwidth ≡ true) × (length weights.now ≡ cells grid.now) × (0 < length grid.now) }
-    requires matrix_len { (length matrix.old ≡ length weights.now * cols) × (length columns.now ≡ cols * length grid.now) }
-    requires by_index { (i : ℕ) → i < length columns.now → at columns.now i < size }
-    requires c_value { length grid.now ≡ 1 → (c : ℕ) → c < length columns.now → at columns.now c ≡ c }
-    requires j_bound { 1 < length grid.now → (j : ℕ) → j < length grid.now → at grid.now j < side }
-    ensures { matrix.new ≡ tabulate (length matrix.old)
-        (flat cols (weighed bitwidth grid.now columns.now weights.now)) }
-{
-    if grid.len() == 1 {
-        fill_products(matrix, weights.len(), cols, bitwidth);
-        weigh_rows(matrix, weights, cols, bitwidth);
-        return;
-    }
-    fill_products(products, side, size, bitwidth);
-    fill_columns(
-        matrix, weights, grid, columns, cols, products, size, bitwidth,
-    );
 }
 
 // Fills the right side with the targets modulo 2^bitwidth.
@@ -218,9 +175,7 @@ pub(crate) fn fill_right(right: &mut [u64], targets: &[u64], bitwidth: u32)
     ensures { right.new ≡ tabulate (length right.old) (λ i. at targets.now i % 2 ^ bitwidth) }
 {
     let mask = arith::bitmask(bitwidth);
-    let mut i = 0;
-    while i < right.len() {
-        right[i] = targets[i] & mask;
-        i += 1;
+    for (i, entry) in right.iter_mut().enumerate() {
+        *entry = targets[i] & mask;
     }
 }

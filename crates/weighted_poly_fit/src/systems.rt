@@ -6,46 +6,12 @@ ghost use Rattle.meaning.specs.Replies.{refused};
 ghost use Rattle.meaning.specs.Elimination.{joined, system, eliminated};
 ghost use Rattle.meaning.specs.Fit.{columns, fit_system};
 ghost use Rattle.two_adic_solver.specs.Solved.{Concluded};
-ghost use Rattle.weighted_poly_fit.specs.Fitting.{Shaped, Solvable, Answered};
+ghost use Rattle.weighted_poly_fit.specs.Fitting.{Solvable, Answered};
 ghost use Rattle.answers.specs.Said.{said};
 
-use crate::{answer, columns, matrix};
-use answers::{Number, Outcome, Refusal};
-
-// Lists the columns and fills the matrix and the right side of the system. `degrees` has the highest exponents, all below `size`, and `grid` the degrees of
-// the grid, with two variables or more all below `side`; there are `cols` columns. `products` has `size` places for each coordinate below `side` and is
-// used up.
-pub(crate) fn fill_system(
-    products: &mut [u64],
-    exponents: &mut [u8],
-    matrix: &mut [u64],
-    right: &mut [u64],
-    weights: &[u64],
-    targets: &[u64],
-    degrees: &[u8],
-    grid: &[u8],
-    most: u8,
-    cols: usize,
-    side: usize,
-    size: usize,
-    bitwidth: u32,
-)
-    requires shaped { Shaped bitwidth side size degrees.now grid.now }
-    requires cols_value { (cols ≡ length (columns degrees.now most)) × (length exponents.old ≡ cols * length degrees.now) }
-    requires matrix_len { (length matrix.old ≡ length weights.now * cols) × (length targets.now ≡ length right.old)
-        × (length products.old ≡ side * size) × (length weights.now ≡ cells grid.now) }
-    ensures lists { exponents.new ≡ joined (columns degrees.now most) }
-    ensures fills { system bitwidth cols matrix.new right.new
-        ≡ fit_system bitwidth grid.now (columns degrees.now most) weights.now targets.now }
-{
-    let variables = degrees.len();
-    let mut current = [0u8; 20];
-    columns::enumerate_basis(exponents, &mut current[..variables], degrees, most);
-    matrix::fill_matrix(
-        matrix, weights, grid, exponents, cols, side, size, products, bitwidth,
-    );
-    matrix::fill_right(right, targets, bitwidth);
-}
+use crate::fit::Given;
+use crate::{columns, matrix};
+use answers::Refusal;
 
 // Solves the system of the matrix and the right side, which are used up, into `values`. The result says whether the elimination finds an answer.
 fn solve(matrix: &mut [u64], right: &mut [u64], values: &mut [u64], bitwidth: u32) -> bool
@@ -54,43 +20,66 @@ fn solve(matrix: &mut [u64], right: &mut [u64], values: &mut [u64], bitwidth: u3
         (eliminated bitwidth (length right.old) (length values.old)
         (system bitwidth (length values.old) matrix.old right.old)) values.new result }
 {
-    match two_adic_solver::solver::solve_2adic(matrix, right, values.len(), bitwidth, values) {
-        Outcome::Refused(_) => false,
-        Outcome::Accepted => true,
-    }
+    two_adic_solver::solver::solve_2adic(matrix, right, values.len(), bitwidth, values).is_ok()
 }
 
 // The refusal where the elimination finds no answer: the whole output is set to zero.
-fn no_answer(out: &mut [u64]) -> Number
+fn no_answer(out: &mut [u64]) -> Result<u64, Refusal>
     ensures says { said result ≡ refused 10 }
     ensures leaves { out.new ≡ tabulate (length out.old) (λ n. 0) }
 {
     tables::clear(out);
-    Number::Refused(Refusal::NoAnswer)
+    Err(Refusal::NoAnswer)
 }
 
-// Solves the system and fills `out` with the box of the answer; the result is the degree used. Where the elimination finds no answer `out` gets zeros.
-// Matrix, right side and values are used up.
-pub(crate) fn answer_system(
-    matrix: &mut [u64],
-    right: &mut [u64],
-    values: &mut [u64],
-    out: &mut [u64],
-    exponents: &[u8],
-    degrees: &[u8],
-    most: u8,
-    bitwidth: u32,
-) -> Number
-    requires solvable { Solvable bitwidth matrix.old right.old values.old }
-    requires out_len { (length out.old ≡ cells degrees.now) × (cells degrees.now ≤ 65536) × (length degrees.now ≤ 20) }
-    requires values_len { (length values.old ≡ length (columns degrees.now most)) × (exponents.now ≡ joined (columns degrees.now most)) }
-    ensures { Answered bitwidth (length right.old) (length values.old) degrees.now
-        (columns degrees.now most)
-        (system bitwidth (length values.old) matrix.old right.old) out.new (said result) }
-{
-    if !solve(matrix, right, values, bitwidth) {
-        return no_answer(out);
+impl Given<'_> {
+    // Lists the columns and fills the matrix and the right side of the system. `products` has `size` places for each coordinate below `side` and is used up.
+    pub(crate) fn fill_system(
+        &self,
+        products: &mut [u64],
+        exponents: &mut [u8],
+        matrix: &mut [u64],
+        right: &mut [u64],
+    )
+        requires exponents_len { length exponents.old ≡ self.now.cols * length self.now.degrees.now }
+        requires matrix_len { (length matrix.old ≡ length self.now.weights.now * self.now.cols) × (length self.now.targets.now ≡ length right.old)
+            × (length products.old ≡ self.now.side * self.now.size) × (length self.now.weights.now ≡ cells self.now.grid.now) }
+        ensures lists { exponents.new ≡ joined (columns self.now.degrees.now self.now.most) }
+        ensures fills { let g = self.now in system g.bitwidth g.cols matrix.new right.new
+            ≡ fit_system g.bitwidth g.grid.now (columns g.degrees.now g.most) g.weights.now g.targets.now }
+    {
+        let mut current = [0u8; 20];
+        columns::enumerate_basis(
+            exponents,
+            &mut current[..self.degrees.len()],
+            self.degrees,
+            self.most,
+        );
+        self.fill_matrix(products, exponents, matrix);
+        matrix::fill_right(right, self.targets, self.bitwidth);
     }
-    let degree = answer::fill_answer(out, values, exponents, degrees, most, bitwidth);
-    Number::Value(degree)
+
+    // Solves the system and fills `out` with the box of the answer; the result is the degree used. Where the elimination finds no answer `out` gets zeros.
+    // Matrix, right side and values are used up.
+    pub(crate) fn answer_system(
+        &self,
+        exponents: &[u8],
+        matrix: &mut [u64],
+        right: &mut [u64],
+        values: &mut [u64],
+        out: &mut [u64],
+    ) -> Result<u64, Refusal>
+        requires solvable { Solvable self.now.bitwidth matrix.old right.old values.old }
+        requires out_len { (length out.old ≡ cells self.now.degrees.now) × (cells self.now.degrees.now ≤ 65536) }
+        requires values_len { let g = self.now in (length values.old ≡ length (columns g.degrees.now g.most)) × (exponents.now ≡ joined (columns g.degrees.now g.most)) }
+        ensures { let g = self.now in Answered g.bitwidth (length right.old) (length values.old) g.degrees.now
+            (columns g.degrees.now g.most)
+            (system g.bitwidth (length values.old) matrix.old right.old) out.new (said result) }
+    {
+        if !solve(matrix, right, values, self.bitwidth) {
+            return no_answer(out);
+        }
+        let degree = self.fill_answer(exponents, values, out);
+        Ok(degree)
+    }
 }

@@ -1,44 +1,35 @@
--- A refusal is the check's, and `out` stays. Where the check accepts, the support is short enough for twenty copies of the degree and the lengths are
--- those of the box, so that `convert_box` can be called; the part of the twenty copies is the cube of the support.
-use mathlib.Core.Path.{◌≡◌, sym, ◌∙◌, ap}
+-- A refusal is the check's, and `out` stays. Where the check accepts, there are at most twenty variables and the lengths are those of the box, so that
+-- `convert_box` can be called.
+use mathlib.Core.Path.{sym, ◌∙◌, ap}
 use mathlib.Core.List.{List}
 use mathlib.Core.Bool.{false}
 use Prim.Native.Nat.{ℕ, ◌^◌}
-use lib.Seq.{length-take-le}
-use Rattle.meaning.specs.Boxes.{cells}
-use Rattle.meaning.specs.Settings.{cube}
-use Rattle.meaning.specs.Calls.{in_out_number, convert_left, left}
-use Rattle.settings.specs.Causes.{take-cube, ready_passes, ready_high}
-use Rattle.theory.specs.AcceptedCalls.{Ready, ready}
-use Rattle.answers.specs.Said.{said_number}
-use Rattle.answers.specs.Laws.{left-code}
+use Rattle.meaning.specs.Calls.{convert_left, left}
+use Rattle.settings.specs.Causes.{ready_passes, ready_high}
+use Rattle.settings.specs.Forms.{degrees_of}
+use Rattle.theory.specs.AcceptedCalls.{ready}
+use Rattle.answers.specs.Laws.{handed_on, left-code}
 use Rattle.lines.specs.Transforms.{box_of}
 use Rattle.basis_transform.proofs.transform_basis.Goals as goal
 
-pub slice_bounds-degrees-end : goal.slice_bounds-degrees-end
-slice_bounds-degrees-end c = (ready_passes ((let ok : let k = c.args in Ready false k.total k.bitwidth k.support.now ((cube c.args.support.now c.args.max_degree)) k.coeffs.now k.out.now = ready _ _ _ _ _ _ _ ((let accepted : let k = c.args in in_out_number false k.total k.bitwidth k.support.now ((cube c.args.support.now c.args.max_degree)) k.coeffs.now k.out.now ≡ 0 = sym c.check_tables.ensures ∙ ap said_number c.in-Accepted.is in accepted)) in ok))).short
-
-pub slice_bounds-convert_box-end : goal.slice_bounds-convert_box-end
-slice_bounds-convert_box-end c = sym (length-take-le _ _ (ready_passes ((let ok : let k = c.args in Ready false k.total k.bitwidth k.support.now ((cube c.args.support.now c.args.max_degree)) k.coeffs.now k.out.now = ready _ _ _ _ _ _ _ ((let accepted : let k = c.args in in_out_number false k.total k.bitwidth k.support.now ((cube c.args.support.now c.args.max_degree)) k.coeffs.now k.out.now ≡ 0 = sym c.check_tables.ensures ∙ ap said_number c.in-Accepted.is in accepted)) in ok))).short)
-
 pub convert_box-requires : goal.convert_box-requires
-convert_box-requires c =
-    let r = (let ok : let k = c.args in Ready false k.total k.bitwidth k.support.now ((cube c.args.support.now c.args.max_degree)) k.coeffs.now k.out.now = ready _ _ _ _ _ _ _ ((let accepted : let k = c.args in in_out_number false k.total k.bitwidth k.support.now ((cube c.args.support.now c.args.max_degree)) k.coeffs.now k.out.now ≡ 0 = sym c.check_tables.ensures ∙ ap said_number c.in-Accepted.is in accepted)) in ok) in
-    let k = c.args in
-    let e = sym (take-cube k.support.now k.max_degree (ready_passes r).short) in
-    (ready_high r, r.given_length ∙ ap cells e, r.out_length ∙ ap cells e)
+convert_box-requires g c =
+    let r = ready _ _ _ _ _ _ _ (sym c.in_ok-check_tables.ensures) in
+    rw (c.as_slice.ensures ∙ c.degrees-degrees.ensures.all (ready_passes r).short) (ready_high r, r.given_length, r.out_length)
 
-pub returns-in-Refused-clause-leaves : goal.returns-in-Refused-clause-leaves
+pub returns-in_err-check_tables : goal.returns-in_err-check_tables
 unfolding convert_left
-returns-in-Refused-clause-leaves c =
-    let n = sym c.check_tables.ensures ∙ ap said_number c.in-Refused.is in
-    sym (left-code c.in-Refused.refusal _ _ n)
+returns-in_err-check_tables g c =
+    let n = sym c.in_err-check_tables.ensures in
+    rw (handed_on _ c.from_residual.ensures.1) (record { says = sym n; leaves = sym (left-code c.in_err-check_tables.field-0.0 _ _ n) })
 
-pub returns-in-Accepted-clause-leaves : goal.returns-in-Accepted-clause-leaves
+pub returns-clause-leaves : goal.returns-clause-leaves
 unfolding convert_left
-returns-in-Accepted-clause-leaves c =
+returns-clause-leaves g c =
     let k = c.args in
-    let n = (let accepted : let k = c.args in in_out_number false k.total k.bitwidth k.support.now ((cube c.args.support.now c.args.max_degree)) k.coeffs.now k.out.now ≡ 0 = sym c.check_tables.ensures ∙ ap said_number c.in-Accepted.is in accepted) in
-    let e = take-cube k.support.now k.max_degree (ready_passes ((let ok : let k = c.args in Ready false k.total k.bitwidth k.support.now ((cube c.args.support.now c.args.max_degree)) k.coeffs.now k.out.now = ready _ _ _ _ _ _ _ ((let accepted : let k = c.args in in_out_number false k.total k.bitwidth k.support.now ((cube c.args.support.now c.args.max_degree)) k.coeffs.now k.out.now ≡ 0 = sym c.check_tables.ensures ∙ ap said_number c.in-Accepted.is in accepted)) in ok))).short in c.convert_box.ensures
-    ∙ ap (λ (ds : List ℕ). box_of k.transform (2 ^ k.bitwidth) ds k.coeffs.now) e
-    ∙ ap (λ (i : ℕ). left i (box_of k.transform (2 ^ k.bitwidth) ((cube c.args.support.now c.args.max_degree)) k.coeffs.now) k.out.now) (sym n)
+    let s = k.settings.now in
+    let n = c.in_ok-check_tables.ensures in
+    let r = ready false s.total s.bitwidth s.support.now (degrees_of s) k.coeffs.now k.out.now (sym n) in
+    c.convert_box.ensures
+    ∙ ap (λ (ds : List ℕ). box_of (g.T.FourTransform.line k.transform) (2 ^ s.bitwidth) ds k.coeffs.now) (c.as_slice.ensures ∙ c.degrees-degrees.ensures.all (ready_passes r).short)
+    ∙ ap (λ (i : ℕ). left i (box_of (g.T.FourTransform.line k.transform) (2 ^ s.bitwidth) (degrees_of s) k.coeffs.now) k.out.now) n

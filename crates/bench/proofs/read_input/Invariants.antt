@@ -4,5 +4,8 @@ use Rattle.bench.specs.Answers.{LedFrom}
 use Rattle.bench.proofs.read_input.Given as goal
 
 abbrev pub invariant-loop : goal.invariant-loop
-invariant-loop g l = (length l.values ≡ length l.initial.values) × (65536 ≡ length l.piece)
-    × LedFrom (g.R.Read.remaining l.initial.source) (g.R.Read.remaining l.source) l.initial.values l.reader l.values l.left
+invariant-loop g l = record {
+  same_length : length l.values ≡ length l.initial.values;
+  piece : 65536 ≡ length l.piece;
+  led : LedFrom (g.R.Read.remaining l.initial.source) (g.R.Read.remaining l.source) l.initial.values l.input.reader l.values l.input.left;
+}

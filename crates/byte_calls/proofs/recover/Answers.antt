@@ -1,63 +1,53 @@
 -- The support's bytes and the settings, then the tables' bytes; what passes has room: at most twenty indices, and 64 cells or 4,096.
-use Rattle.std.proofs.Common.{◌≡◌, true, ◌&&◌, sym, ap, ap₂, ◌∙◌}
+use Rattle.std.proofs.Common.{◌≡◌, true, false, ◌&&◌, sym, ap, ap₂, ◌∙◌}
 use borrow.Author.Tests.{eqb-true}
-use Rattle.meaning.specs.Settings.{cube}
-use Rattle.byte_calls.specs.Bytes.{decoded}
+use Rattle.answers.specs.Laws.{handed_on}
 use Rattle.byte_calls.specs.Calls.{holds}
-use Rattle.byte_calls.specs.TableLaws.{length-zeros, Boxed, boxed, unboxed, recover_turned, recover_lengths, recover_done}
+use Rattle.byte_calls.specs.TableLaws.{boxed, unboxed, recover_turned, recover_lengths, recover_done}
+use Rattle.byte_calls.proofs.recover.Goals.{then-not-holds-via-then-not-holds, then-not-holds-via-else-not-holds+then-not-holds-2}
 use Rattle.byte_calls.proofs.recover.Goals as goal
+
+pub returns-in_err-cells : goal.returns-in_err-cells
+returns-in_err-cells c =
+    let k = c.args in
+    let s = k.settings.now in
+    let x = recover_turned s k.values.now k.out.now _ (unboxed true s c.check.ensures c.in_err-cells.was) in
+    rw (handed_on _ c.from_residual.ensures.1) (record { says = x.0; leaves = x.1.0; decides = x.1.1 })
 
 pub returns-then-not-holds : goal.returns-then-not-holds
 returns-then-not-holds c =
     let k = c.args in
-    let b : Boxed true k.count k.total k.width k.support.now (cube (decoded k.support.now) k.degree) c.in-Value.cells = boxed _ _ _ _ _ _ c.check.ensures c.in-Value.is in
-    let s = recover_lengths _ _ _ _ _ k.values.now k.out.now b (ap (◌&& holds k.out.now c.in-Value.cells) (sym c.holds.ensures ∙ c.if-not-holds.true)) in
-    record { says = s.0; leaves = s.1.0; decides = s.1.1 }
+    let s = k.settings.now in
+    let wrong : holds k.values.now c.in_ok-cells.cells && holds k.out.now c.in_ok-cells.cells ≡ false =
+    elim c.then-not-holds.branch [
+      | then-not-holds-via-then-not-holds w ↦ ap (◌&& holds k.out.now c.in_ok-cells.cells) (sym c.holds.ensures ∙ w.if-not-holds.true)
+      | then-not-holds-via-else-not-holds+then-not-holds-2 w ↦ ap₂ ◌&&◌ (sym c.holds.ensures ∙ w.if-not-holds.false) (sym w.holds-else-not-holds.ensures ∙ w.if-not-holds-2.true)
+    ] in
+    let x = recover_lengths s k.values.now k.out.now (boxed true s c.check.ensures c.in_ok-cells.was) wrong in
+    record { says = x.0; leaves = x.1.0; decides = x.1.1 }
 
-pub returns-then-not-holds-2 : goal.returns-then-not-holds-2
-returns-then-not-holds-2 c =
-    let k = c.args in
-    let b : Boxed true k.count k.total k.width k.support.now (cube (decoded k.support.now) k.degree) c.in-Value.cells = boxed _ _ _ _ _ _ c.check.ensures c.in-Value.is in
-    let hv : holds k.values.now c.in-Value.cells ≡ true = sym c.holds.ensures ∙ c.if-not-holds.false in
-    let s = recover_lengths _ _ _ _ _ k.values.now k.out.now b (ap₂ ◌&&◌ hv (sym c.holds-in-Value.ensures ∙ c.if-not-holds-2.true)) in
-    record { says = s.0; leaves = s.1.0; decides = s.1.1 }
-
-pub recover_small-requires : goal.recover_small-requires
-recover_small-requires c =
-    let k = c.args in
-    let b : Boxed true k.count k.total k.width k.support.now (cube (decoded k.support.now) k.degree) c.in-Value.cells = boxed _ _ _ _ _ _ c.check.ensures c.in-Value.is in
-    let hv : holds k.values.now c.in-Value.cells ≡ true = sym c.holds.ensures ∙ c.if-not-holds.false in
-    let ho : holds k.out.now c.in-Value.cells ≡ true = sym c.holds-in-Value.ensures ∙ c.if-not-holds-2.false in
-    record { support_len = (b.bytes, eqb-true _ _ hv, eqb-true _ _ ho); count_bound = (b.few, c.if-cells-le64.true) }
+pub recover_in-requires-clause-tables : goal.recover_in-requires-clause-tables
+recover_in-requires-clause-tables c =
+    let b = boxed true c.args.settings.now c.check.ensures c.in_ok-cells.was in
+    (b.held, eqb-true _ _ (sym c.holds.ensures ∙ c.if-not-holds.false), eqb-true _ _ (sym c.holds-else-not-holds.ensures ∙ c.if-not-holds-2.false))
 
 pub returns-then-cells-le64 : goal.returns-then-cells-le64
 returns-then-cells-le64 c =
     let k = c.args in
-    let b : Boxed true k.count k.total k.width k.support.now (cube (decoded k.support.now) k.degree) c.in-Value.cells = boxed _ _ _ _ _ _ c.check.ensures c.in-Value.is in
-    let hv : holds k.values.now c.in-Value.cells ≡ true = sym c.holds.ensures ∙ c.if-not-holds.false in
-    let ho : holds k.out.now c.in-Value.cells ≡ true = sym c.holds-in-Value.ensures ∙ c.if-not-holds-2.false in
-    let s = recover_done _ _ _ _ _ k.values.now k.out.now b hv ho _ (length-zeros _) c.recover_small.ensures.says c.recover_small.ensures.leaves in
-    record { says = s.0; leaves = s.1.0; decides = s.1.1 }
+    let s = k.settings.now in
+    let x = recover_done s k.values.now k.out.now (boxed true s c.check.ensures c.in_ok-cells.was)
+    (sym c.holds.ensures ∙ c.if-not-holds.false) (sym c.holds-else-not-holds.ensures ∙ c.if-not-holds-2.false) c.recover_in.ensures.says c.recover_in.ensures.leaves in
+    record { says = x.0; leaves = x.1.0; decides = x.1.1 }
 
 pub recover_large-requires : goal.recover_large-requires
 recover_large-requires c =
-    let k = c.args in
-    let b : Boxed true k.count k.total k.width k.support.now (cube (decoded k.support.now) k.degree) c.in-Value.cells = boxed _ _ _ _ _ _ c.check.ensures c.in-Value.is in
-    let hv : holds k.values.now c.in-Value.cells ≡ true = sym c.holds.ensures ∙ c.if-not-holds.false in
-    let ho : holds k.out.now c.in-Value.cells ≡ true = sym c.holds-in-Value.ensures ∙ c.if-not-holds-2.false in
-    record { support_len = (b.bytes, eqb-true _ _ hv, eqb-true _ _ ho); count_bound = (b.few, c.if-cells-le64.false, b.small) }
+    let b = boxed true c.args.settings.now c.check.ensures c.in_ok-cells.was in
+    (b.held, eqb-true _ _ (sym c.holds.ensures ∙ c.if-not-holds.false), eqb-true _ _ (sym c.holds-else-not-holds.ensures ∙ c.if-not-holds-2.false), b.small)
 
-pub returns-in-Refused : goal.returns-in-Refused
-returns-in-Refused c =
+pub returns : goal.returns
+returns c =
     let k = c.args in
-    let s = recover_turned _ _ _ _ _ k.values.now k.out.now c.in-Refused.refusal (unboxed _ _ _ _ _ _ c.check.ensures c.in-Refused.is) in
-    record { says = s.0; leaves = s.1.0; decides = s.1.1 }
-
-pub returns-else-cells-le64 : goal.returns-else-cells-le64
-returns-else-cells-le64 c =
-    let k = c.args in
-    let b : Boxed true k.count k.total k.width k.support.now (cube (decoded k.support.now) k.degree) c.in-Value.cells = boxed _ _ _ _ _ _ c.check.ensures c.in-Value.is in
-    let hv : holds k.values.now c.in-Value.cells ≡ true = sym c.holds.ensures ∙ c.if-not-holds.false in
-    let ho : holds k.out.now c.in-Value.cells ≡ true = sym c.holds-in-Value.ensures ∙ c.if-not-holds-2.false in
-    let s = recover_done _ _ _ _ _ k.values.now k.out.now b hv ho _ (length-zeros _) c.recover_large.ensures.says c.recover_large.ensures.leaves in
-    record { says = s.0; leaves = s.1.0; decides = s.1.1 }
+    let s = k.settings.now in
+    let x = recover_done s k.values.now k.out.now (boxed true s c.check.ensures c.in_ok-cells.was)
+    (sym c.holds.ensures ∙ c.if-not-holds.false) (sym c.holds-else-not-holds.ensures ∙ c.if-not-holds-2.false) c.recover_large.ensures.says c.recover_large.ensures.leaves in
+    record { says = x.0; leaves = x.1.0; decides = x.1.1 }

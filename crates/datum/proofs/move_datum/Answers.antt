@@ -1,104 +1,70 @@
 -- A refusal of the check is passed on, and offsets that are not one for each support variable are refused, with `out` as it was. Else the three steps leave the
--- moved form (`moved_of_steps`); the degrees that are lent are a part of twenty copies.
+-- moved form (`moved_of_steps`). The promise follows from the number and what is left.
 use borrow.Author.Tests.{eq-eqb, ne_eqb}
-use mathlib.Core.Path.{◌≡◌, sym, ◌∙◌, ap}
+use mathlib.Core.Path.{◌≡◌, refl, sym, ◌∙◌, ap}
 use mathlib.Core.Bool.{Bool, false, cond}
-use Prim.Native.Nat.{ℕ, ◌≤◌}
+use mathlib.Core.List.{List}
+use Prim.Native.Nat.{ℕ}
 use lib.Dec.{eqb}
 use lib.ListN.{length}
-use lib.Seq.{length-take-le}
-use Rattle.meaning.specs.Settings.{cube, first}
+use Rattle.meaning.specs.Settings.{first}
 use Rattle.meaning.specs.Datum.{moved}
-use Rattle.meaning.specs.Calls.{in_out_number, move_left, left}
-use Rattle.theory.specs.AcceptedCalls.{Ready, ready}
+use Rattle.meaning.specs.Calls.{in_out_number, move_number, move_left, left}
+use Rattle.theory.specs.AcceptedCalls.{ready}
 use Rattle.demand3.proofs.BoxCalls.{datum_moved}
-use Rattle.answers.specs.Said.{said_number}
-use Rattle.answers.specs.Laws.{first_code, left-code}
-use Rattle.settings.specs.Causes.{take-cube}
+use Rattle.answers.specs.Laws.{handed_on, first_code, left-code}
+use Rattle.settings.specs.declared.Settings.{Settings}
+use Rattle.settings.specs.Forms.{degrees_of}
 use Rattle.datum.proofs.MoveSteps.{move_number-eq, variables_few, moved_of_steps}
 use Rattle.datum.proofs.move_datum.Goals as goal
 
-pub returns-then-offsets-support-clause-says : goal.returns-then-offsets-support-clause-says
-returns-then-offsets-support-clause-says c =
-    let n = move_number-eq c.args.total c.args.bitwidth c.args.support.now (cube c.args.support.now c.args.max_degree) c.args.coeffs.now c.args.offsets.now c.args.out.now
-    ∙ ap (λ (n : ℕ). first n (cond (eqb (length c.args.offsets.now) (length c.args.support.now)) 0 9)) (sym c.check_tables.ensures ∙ ap said_number c.in-Accepted.is)
-    ∙ ap (λ (b : Bool). cond b 0 9) (ne_eqb _ _ c.if-offsets-support.true) in
-    sym n
+module _ (s : Settings) (c os out : List ℕ) where
+  abbrev number : ℕ
+  number = move_number s.total s.bitwidth s.support.now (degrees_of s) c os out
 
-pub returns-then-offsets-support-clause-leaves : goal.returns-then-offsets-support-clause-leaves
-unfolding move_left
-returns-then-offsets-support-clause-leaves c =
-    let n = move_number-eq c.args.total c.args.bitwidth c.args.support.now (cube c.args.support.now c.args.max_degree) c.args.coeffs.now c.args.offsets.now c.args.out.now
-    ∙ ap (λ (n : ℕ). first n (cond (eqb (length c.args.offsets.now) (length c.args.support.now)) 0 9)) (sym c.check_tables.ensures ∙ ap said_number c.in-Accepted.is)
-    ∙ ap (λ (b : Bool). cond b 0 9) (ne_eqb _ _ c.if-offsets-support.true) in
-    sym (ap (λ (i : ℕ). left i (moved c.args.bitwidth (cube c.args.support.now c.args.max_degree) c.args.coeffs.now c.args.offsets.now) c.args.out.now) n)
+  -- the number is the check's, or that of the offsets
+  number-eq : {n : ℕ} → n ≡ in_out_number false s.total s.bitwidth s.support.now (degrees_of s) c out
+      → number ≡ first n (cond (eqb (length os) (length s.support.now)) 0 9)
+  number-eq e =
+      move_number-eq s.total s.bitwidth s.support.now (degrees_of s) c os out
+      ∙ ap (λ (n : ℕ). first n (cond (eqb (length os) (length s.support.now)) 0 9)) (sym e)
 
-pub returns-then-offsets-support-clause-moves : goal.returns-then-offsets-support-clause-moves
-unfolding move_left
-returns-then-offsets-support-clause-moves c =
-    let n = move_number-eq c.args.total c.args.bitwidth c.args.support.now (cube c.args.support.now c.args.max_degree) c.args.coeffs.now c.args.offsets.now c.args.out.now
-    ∙ ap (λ (n : ℕ). first n (cond (eqb (length c.args.offsets.now) (length c.args.support.now)) 0 9)) (sym c.check_tables.ensures ∙ ap said_number c.in-Accepted.is)
-    ∙ ap (λ (b : Bool). cond b 0 9) (ne_eqb _ _ c.if-offsets-support.true) in
-    datum_moved c.args.total c.args.bitwidth c.args.support.now (cube c.args.support.now c.args.max_degree) c.args.coeffs.now c.args.offsets.now c.args.out.now
-    (sym n)
-    (sym (ap (λ (i : ℕ). left i (moved c.args.bitwidth (cube c.args.support.now c.args.max_degree) c.args.coeffs.now c.args.offsets.now) c.args.out.now) n))
+  -- what is left by a number, and the promise
+  leaves : {n : ℕ} → number ≡ n → move_left s.total s.bitwidth s.support.now (degrees_of s) c os out
+      ≡ left n (moved s.bitwidth (degrees_of s) c os) out
+  unfolding move_left
+  leaves e = ap (λ (i : ℕ). left i (moved s.bitwidth (degrees_of s) c os) out) e
 
-pub slice_bounds-degrees-end : goal.slice_bounds-degrees-end
-slice_bounds-degrees-end c = (let few : length c.args.support.now ≤ 20 = variables_few c.args.offsets.now ((let ok : let k = c.args in Ready false k.total k.bitwidth k.support.now ((cube c.args.support.now c.args.max_degree)) k.coeffs.now k.out.now = ready _ _ _ _ _ _ _ ((let accepted : let k = c.args in in_out_number false k.total k.bitwidth k.support.now ((cube c.args.support.now c.args.max_degree)) k.coeffs.now k.out.now ≡ 0 = sym c.check_tables.ensures ∙ ap said_number c.in-Accepted.is in accepted)) in ok)) in few)
+pub returns-in_err-check_tables : goal.returns-in_err-check_tables
+returns-in_err-check_tables c =
+    let k = c.args in
+    let s = k.settings.now in
+    let r = c.in_err-check_tables.field-0.0 in
+    let n = number-eq s k.coeffs.now k.offsets.now k.out.now c.in_err-check_tables.ensures ∙ first_code r _ refl in
+    let t = sym (leaves s k.coeffs.now k.offsets.now k.out.now n ∙ left-code r _ _ refl) in
+    rw (handed_on _ c.from_residual.ensures.1)
+    (record { says = sym n; leaves = t; moves = datum_moved s.total s.bitwidth s.support.now (degrees_of s) k.coeffs.now k.offsets.now k.out.now (sym n) t })
 
-pub slice_bounds-move_all-end : goal.slice_bounds-move_all-end
-slice_bounds-move_all-end c = sym (length-take-le _ _ ((let few : length c.args.support.now ≤ 20 = variables_few c.args.offsets.now ((let ok : let k = c.args in Ready false k.total k.bitwidth k.support.now ((cube c.args.support.now c.args.max_degree)) k.coeffs.now k.out.now = ready _ _ _ _ _ _ _ ((let accepted : let k = c.args in in_out_number false k.total k.bitwidth k.support.now ((cube c.args.support.now c.args.max_degree)) k.coeffs.now k.out.now ≡ 0 = sym c.check_tables.ensures ∙ ap said_number c.in-Accepted.is in accepted)) in ok)) in few)))
+pub returns-then-offsets-settings : goal.returns-then-offsets-settings
+returns-then-offsets-settings c =
+    let k = c.args in
+    let s = k.settings.now in
+    let n = number-eq s k.coeffs.now k.offsets.now k.out.now c.in_ok-check_tables.ensures ∙ ap (λ (b : Bool). cond b 0 9) (ne_eqb _ _ c.if-offsets-settings.true) in
+    let t = sym (leaves s k.coeffs.now k.offsets.now k.out.now n) in
+    record { says = sym n; leaves = t; moves = datum_moved s.total s.bitwidth s.support.now (degrees_of s) k.coeffs.now k.offsets.now k.out.now (sym n) t }
 
-pub slice_bounds-degrees-end-in-Accepted : goal.slice_bounds-degrees-end-in-Accepted
-slice_bounds-degrees-end-in-Accepted c = (let few : length c.args.support.now ≤ 20 = variables_few c.args.offsets.now ((let ok : let k = c.args in Ready false k.total k.bitwidth k.support.now ((cube c.args.support.now c.args.max_degree)) k.coeffs.now k.out.now = ready _ _ _ _ _ _ _ ((let accepted : let k = c.args in in_out_number false k.total k.bitwidth k.support.now ((cube c.args.support.now c.args.max_degree)) k.coeffs.now k.out.now ≡ 0 = sym c.check_tables.ensures ∙ ap said_number c.in-Accepted.is in accepted)) in ok)) in few)
+pub copy_from_slice-requires : goal.copy_from_slice-requires
+copy_from_slice-requires c =
+    let ok = ready _ _ _ _ _ _ _ (sym c.in_ok-check_tables.ensures) in
+    ok.out_length ∙ sym ok.given_length
 
-pub slice_bounds-reduce-end : goal.slice_bounds-reduce-end
-slice_bounds-reduce-end c = sym (length-take-le _ _ ((let few : length c.args.support.now ≤ 20 = variables_few c.args.offsets.now ((let ok : let k = c.args in Ready false k.total k.bitwidth k.support.now ((cube c.args.support.now c.args.max_degree)) k.coeffs.now k.out.now = ready _ _ _ _ _ _ _ ((let accepted : let k = c.args in in_out_number false k.total k.bitwidth k.support.now ((cube c.args.support.now c.args.max_degree)) k.coeffs.now k.out.now ≡ 0 = sym c.check_tables.ensures ∙ ap said_number c.in-Accepted.is in accepted)) in ok)) in few)))
-
-pub returns-in-Refused-clause-says : goal.returns-in-Refused-clause-says
-returns-in-Refused-clause-says c =
-    let n = move_number-eq c.args.total c.args.bitwidth c.args.support.now (cube c.args.support.now c.args.max_degree) c.args.coeffs.now c.args.offsets.now c.args.out.now ∙ first_code c.in-Refused.refusal _ (sym c.check_tables.ensures ∙ ap said_number c.in-Refused.is) in
-    sym n
-
-pub returns-in-Refused-clause-leaves : goal.returns-in-Refused-clause-leaves
-unfolding move_left
-returns-in-Refused-clause-leaves c =
-    let n = move_number-eq c.args.total c.args.bitwidth c.args.support.now (cube c.args.support.now c.args.max_degree) c.args.coeffs.now c.args.offsets.now c.args.out.now ∙ first_code c.in-Refused.refusal _ (sym c.check_tables.ensures ∙ ap said_number c.in-Refused.is) in
-    sym (left-code c.in-Refused.refusal _ _ n)
-
-pub returns-in-Refused-clause-moves : goal.returns-in-Refused-clause-moves
-unfolding move_left
-returns-in-Refused-clause-moves c =
-    let n = move_number-eq c.args.total c.args.bitwidth c.args.support.now (cube c.args.support.now c.args.max_degree) c.args.coeffs.now c.args.offsets.now c.args.out.now ∙ first_code c.in-Refused.refusal _ (sym c.check_tables.ensures ∙ ap said_number c.in-Refused.is) in
-    datum_moved c.args.total c.args.bitwidth c.args.support.now (cube c.args.support.now c.args.max_degree) c.args.coeffs.now c.args.offsets.now c.args.out.now
-    (sym n)
-    (sym (left-code c.in-Refused.refusal _ _ n))
-
-pub returns-else-offsets-support-clause-says : goal.returns-else-offsets-support-clause-says
-returns-else-offsets-support-clause-says c =
-    let n = move_number-eq c.args.total c.args.bitwidth c.args.support.now (cube c.args.support.now c.args.max_degree) c.args.coeffs.now c.args.offsets.now c.args.out.now
-    ∙ ap (λ (n : ℕ). first n (cond (eqb (length c.args.offsets.now) (length c.args.support.now)) 0 9)) (sym c.check_tables.ensures ∙ ap said_number c.in-Accepted.is)
-    ∙ ap (λ (b : Bool). cond b 0 9) (eq-eqb _ _ c.if-offsets-support.false) in
-    sym n
-
-pub returns-else-offsets-support-clause-leaves : goal.returns-else-offsets-support-clause-leaves
-unfolding move_left
-returns-else-offsets-support-clause-leaves c =
-    let n = move_number-eq c.args.total c.args.bitwidth c.args.support.now (cube c.args.support.now c.args.max_degree) c.args.coeffs.now c.args.offsets.now c.args.out.now
-    ∙ ap (λ (n : ℕ). first n (cond (eqb (length c.args.offsets.now) (length c.args.support.now)) 0 9)) (sym c.check_tables.ensures ∙ ap said_number c.in-Accepted.is)
-    ∙ ap (λ (b : Bool). cond b 0 9) (eq-eqb _ _ c.if-offsets-support.false) in
-    let ok : Ready false c.args.total c.args.bitwidth c.args.support.now (cube c.args.support.now c.args.max_degree) c.args.coeffs.now c.args.out.now = ready _ _ _ _ _ _ _ (sym c.check_tables.ensures ∙ ap said_number c.in-Accepted.is) in
-    let same = take-cube c.args.support.now c.args.max_degree (variables_few c.args.offsets.now ok) in
-    moved_of_steps c.args.offsets.now ok _ _ _ c.copy.ensures (rw same at c.move_all.ensures) (rw same at c.reduce.ensures) ∙ sym (ap (λ (i : ℕ). left i (moved c.args.bitwidth (cube c.args.support.now c.args.max_degree) c.args.coeffs.now c.args.offsets.now) c.args.out.now) n)
-
-pub returns-else-offsets-support-clause-moves : goal.returns-else-offsets-support-clause-moves
-unfolding move_left
-returns-else-offsets-support-clause-moves c =
-    let n = move_number-eq c.args.total c.args.bitwidth c.args.support.now (cube c.args.support.now c.args.max_degree) c.args.coeffs.now c.args.offsets.now c.args.out.now
-    ∙ ap (λ (n : ℕ). first n (cond (eqb (length c.args.offsets.now) (length c.args.support.now)) 0 9)) (sym c.check_tables.ensures ∙ ap said_number c.in-Accepted.is)
-    ∙ ap (λ (b : Bool). cond b 0 9) (eq-eqb _ _ c.if-offsets-support.false) in
-    let ok : Ready false c.args.total c.args.bitwidth c.args.support.now (cube c.args.support.now c.args.max_degree) c.args.coeffs.now c.args.out.now = ready _ _ _ _ _ _ _ (sym c.check_tables.ensures ∙ ap said_number c.in-Accepted.is) in
-    let same = take-cube c.args.support.now c.args.max_degree (variables_few c.args.offsets.now ok) in
-    datum_moved c.args.total c.args.bitwidth c.args.support.now (cube c.args.support.now c.args.max_degree) c.args.coeffs.now c.args.offsets.now c.args.out.now
-    (sym n)
-    (moved_of_steps c.args.offsets.now ok _ _ _ c.copy.ensures (rw same at c.move_all.ensures) (rw same at c.reduce.ensures) ∙ sym (ap (λ (i : ℕ). left i (moved c.args.bitwidth (cube c.args.support.now c.args.max_degree) c.args.coeffs.now c.args.offsets.now) c.args.out.now) n))
+pub returns : goal.returns
+returns c =
+    let k = c.args in
+    let s = k.settings.now in
+    let n = number-eq s k.coeffs.now k.offsets.now k.out.now c.in_ok-check_tables.ensures ∙ ap (λ (b : Bool). cond b 0 9) (eq-eqb _ _ c.if-offsets-settings.false) in
+    let ok = ready false s.total s.bitwidth s.support.now (degrees_of s) k.coeffs.now k.out.now (sym c.in_ok-check_tables.ensures) in
+    let all = c.degrees-degrees.ensures.all (variables_few k.offsets.now ok) in
+    let t = moved_of_steps k.offsets.now ok _ _ _ c.copy_from_slice.ensures.after (rw (c.as_slice.ensures ∙ all) at c.move_all.ensures) (rw (c.as_slice-2.ensures ∙ all) at c.reduce.ensures)
+    ∙ sym (leaves s k.coeffs.now k.offsets.now k.out.now n) in
+    record { says = sym n; leaves = t; moves = datum_moved s.total s.bitwidth s.support.now (degrees_of s) k.coeffs.now k.offsets.now k.out.now (sym n) t }

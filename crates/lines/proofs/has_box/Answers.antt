@@ -6,14 +6,14 @@ use Rattle.lines.proofs.has_box.Goals as goal
 
 pub returns-then-count-ge16 : goal.returns-then-count-ge16
 returns-then-count-ge16 c =
-    too_many _ _ _ c.loop-i.invariant c.loop-i-test.true _
+    too_many _ _ _ c.loop-degree.invariant c.loop-degree-test.true _
     (lt_of_lt_of_le (omega arith) (product_high _ _ c.if-size-ge72057594037927936.true c.if-count-ge16.true))
 
 pub returns-then-table-size : goal.returns-then-table-size
-returns-then-table-size c = too_many _ _ _ c.loop-i.invariant c.loop-i-test.true _ c.if-table-size.true
+returns-then-table-size c = too_many _ _ _ c.loop-degree.invariant c.loop-degree-test.true _ c.if-table-size.true
 
-pub loop-i-preserved : goal.loop-i-preserved
-loop-i-preserved c = counted_step _ _ _ c.loop-i.invariant c.loop-i-test.true (omega arith)
+pub loop-degree-preserved : goal.loop-degree-preserved
+loop-degree-preserved c = counted_step _ _ _ c.loop-degree.invariant c.loop-degree-test.true (omega arith)
 
 pub returns : goal.returns
-returns c = ap (eqb _) (sym (counted_done _ _ _ c.loop-i.invariant c.loop-i-test.false))
+returns c = ap (eqb _) (sym (counted_done _ _ _ c.loop-degree.invariant c.loop-degree-test.false))

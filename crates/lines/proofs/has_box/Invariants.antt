@@ -4,8 +4,8 @@ use Rattle.std.proofs.Common.{◌-◌, length}
 use Rattle.lines.proofs.BoxSizes.{Counted}
 use Rattle.lines.proofs.has_box.Given as goal
 
-abbrev pub invariant-loop-i : goal.invariant-loop-i
-invariant-loop-i l = Counted l.degrees l.size l.i
+abbrev pub invariant-loop-degree : goal.invariant-loop-degree
+invariant-loop-degree l = Counted l.degrees l.size l.degree-index
 
-abbrev pub decreases-loop-i : goal.decreases-loop-i
-decreases-loop-i l = length l.degrees - l.i
+abbrev pub decreases-loop-degree : goal.decreases-loop-degree
+decreases-loop-degree l = length l.degrees - l.degree-index

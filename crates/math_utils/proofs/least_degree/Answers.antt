@@ -1,17 +1,37 @@
--- The loop: the search from `degree` on finds the cap. Every second factor of a factorial is even, so that a degree with too few twos is below twice
--- the width; the measure is what is left up to there.
-use Rattle.std.proofs.Common.{◌<◌, ◌≤◌, subst, arith}
-use Rattle.theory.specs.DegreeCap.{search_start, search_below, search_step, search_done}
+-- The search is over the degrees below 66, which has twos enough for every width to 64; so the degree that it finds, or 66, is the least.
+use Rattle.std.proofs.Common.{◌≡◌, ℕ, ◌≤◌, ◌<◌, Option, None, Some, unwrap_or, MatchOption, zero-le, le_antisymm, ◌∙◌, rules, tests, arith}
+use native.Mathlib.Decide.{dec_le}
+use Rattle.std.proofs.lemmas.Iterator.{first_from_Range}
+use Rattle.meaning.specs.Factorials.{factorial, twos, degree_cap_of}
+use Rattle.theory.specs.DegreeCap.{degree_cap_of_least, degree_cap_of-le}
 use Rattle.math_utils.proofs.least_degree.Goals as goal
 
-pub loop-degree-init : goal.loop-degree-init
-loop-degree-init c = search_start c.args.bitwidth
+-- where every lower degree has too few twos, the cap is no lower
+not_below : (w d : ℕ) → ((k : ℕ) → 0 ≤ k → k < d → twos (factorial k) < w) → d ≤ degree_cap_of w
+not_below w d few = go (dec_le d (degree_cap_of w))
+  where
+    go : Dec (d ≤ degree_cap_of w) → d ≤ degree_cap_of w
+    go (yes p) = p
+    go (no p) = absurd (omega (arith, few (degree_cap_of w) zero-le (omega arith), (degree_cap_of_least w).enough))
 
-pub loop-degree-smaller : goal.loop-degree-smaller
-loop-degree-smaller c = omega (arith, search_below _ _ c.loop-degree.invariant ((subst (◌< c.args.bitwidth) c.twos_in_factorial.ensures c.loop-degree-test.true)))
+-- where it has enough, the cap is no higher
+not_above : (w d : ℕ) → w ≤ twos (factorial d) → degree_cap_of w ≤ d
+not_above w d enough = go (dec_le (degree_cap_of w) d)
+  where
+    go : Dec (degree_cap_of w ≤ d) → degree_cap_of w ≤ d
+    go (yes p) = p
+    go (no p) = absurd (omega (arith, (degree_cap_of_least w).first d (omega arith)))
 
-pub loop-degree-preserved : goal.loop-degree-preserved
-loop-degree-preserved c = search_step _ _ c.loop-degree.invariant ((subst (◌< c.args.bitwidth) c.twos_in_factorial.ensures c.loop-degree-test.true))
+found : (w : ℕ) → w ≤ 64 → (r : Option ℕ)
+    → MatchOption r ((k : ℕ) → 0 ≤ k → k < 66 → twos (factorial k) < w)
+    (λ i. (0 ≤ i) × (i < 66) × (w ≤ twos (factorial i)) × ((k : ℕ) → 0 ≤ k → k < i → twos (factorial k) < w))
+    → unwrap_or r 66 ≡ degree_cap_of w
+found w small None h = le_antisymm (not_below w 66 h) (degree_cap_of-le w small)
+found w small (Some i) h = le_antisymm (not_below w i h.3) (not_above w i h.2)
 
 pub returns : goal.returns
-returns c = search_done _ _ c.loop-degree.invariant (subst (c.args.bitwidth ≤◌) c.twos_in_factorial.ensures c.loop-degree-test.false)
+returns c =
+    let w = c.args.bitwidth in
+    c.unwrap_or.ensures
+    ∙ found w c.requires _
+    (first_from_Range _ _ _ _ (λ i. w ≤ twos (factorial i)) (λ i. twos (factorial i) < w) c.find.ensures.ran (λ x q k. search (rules, tests)) (λ x q k. search (rules, tests)))

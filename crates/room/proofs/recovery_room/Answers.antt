@@ -1,89 +1,73 @@
 -- The settings decide; where they pass, the cells are counted with them, and the subtractions over the degrees that are lent.
-use mathlib.Core.Path.{◌≡◌, sym, ap, subst, ◌∙◌}
-use mathlib.Core.Bool.{Bool, true}
-use mathlib.Core.List.{List}
-use Prim.Native.Nat.{ℕ, ◌≤◌}
-use native.Mathlib.Nat.{le_trans, le_of_eq}
-use lib.ListN.{length, take, replicate}
-use lib.Seq.{length-take-le}
+use Rattle.std.proofs.Common.{◌≡◌, sym, ap, subst, ◌∙◌, le_trans, le_of_eq, ℕ, ◌≤◌, true, List, length, Result, Ok, Err}
+use lib.ListN.{length-replicate}
 use Rattle.meaning.specs.Boxes.{cells}
-use Rattle.meaning.specs.Settings.{table_limit, fits_width, cube}
+use Rattle.meaning.specs.Settings.{table_limit, fits_width}
 use Rattle.meaning.specs.Calls.{settings_reply}
 use Rattle.meaning.specs.Counts.{subtractions, RecoveryRoom, recovery_room_lem}
-use Rattle.settings.specs.Causes.{passes, settings-cells-le, take-cube}
-use Rattle.settings.specs.Settled.{Settled, Unsettled, settled, unsettled}
-use Rattle.answers.specs.Said.{said}
-use Rattle.answers.specs.declared.Number.{Number}
+use Rattle.settings.specs.declared.Settings.{Settings}
+use Rattle.settings.specs.Causes.{passes, settings-cells-le}
+use Rattle.settings.specs.Forms.{degrees_of}
+use Rattle.settings.specs.Settled.{Settled, settled, unsettled}
 use Rattle.answers.specs.declared.Refusal.{Refusal}
+use Rattle.answers.specs.Said.{said, code}
+use Rattle.answers.specs.Laws.{handed_on}
 use Rattle.room.specs.Promises.{Costs}
+use Rattle.room.specs.Told.{room_told, room_said}
 use Rattle.room.proofs.Rooms.{room_turned, room_passed, room_costs}
 use Rattle.room.proofs.recovery_room.Goals as goal
 
--- the settings pass, with as many cells as they say
-ok : (total w count : ℕ) (support : List ℕ) (d : ℕ) (answer : Number) →
-    said answer ≡ settings_reply true total w support (cube support d) → answer ≡ Number.Value count →
-    Settled true total (fits_width w) support (cube support d) count
-unfolding settings_reply
-ok total w count support d answer e is = settled _ _ _ _ _ e is
+module _ (s : Settings) where
+  -- an answer that says the room says what it costs
+  costs_of : {r : RecoveryRoom} → r ≡ recovery_room_lem s.total s.bitwidth s.support.now (degrees_of s) → Costs (length s.support.now) s.max_degree r
+  costs_of e = subst (Costs (length s.support.now) s.max_degree) (sym e) (room_costs s.total s.bitwidth s.support.now s.max_degree)
 
--- they are turned down
-turned : (total w : ℕ) (r : Refusal) (support : List ℕ) (d : ℕ) (answer : Number) →
-    said answer ≡ settings_reply true total w support (cube support d) → answer ≡ Number.Refused r →
-    Unsettled true total (fits_width w) support (cube support d) r
-unfolding settings_reply
-turned total w r support d answer e is = unsettled _ _ _ _ _ e is
+  module _ {answer : Result ℕ Refusal} (says : said answer ≡ settings_reply true s.total s.bitwidth s.support.now (degrees_of s)) where
+    -- the settings are turned down
+    turned : {r : Refusal} → answer ≡ Err r → room_told (code r) 0 0 ≡ recovery_room_lem s.total s.bitwidth s.support.now (degrees_of s)
+    unfolding settings_reply
+    turned {r} e = room_turned s.total s.bitwidth s.support.now (degrees_of s) r (unsettled true s.total (fits_width s.bitwidth) s.support.now (degrees_of s) says e).refuses
 
-module _ (d : ℕ) {total count : ℕ} {fits : Bool} {support : List ℕ} (s : Settled true total fits support (cube support d) count) where
-  short : length support ≤ 20
-  short = (passes table_limit _ _ _ _ _ s.passes).short
+    -- they pass, with as many cells as they say
+    module _ {count : ℕ} (e : answer ≡ Ok count) where
+      ok : Settled true s.total (fits_width s.bitwidth) s.support.now (degrees_of s) count
+      unfolding settings_reply
+      ok = settled _ _ _ _ _ says e
 
-  lent : take (length support) (replicate 20 d) ≡ cube support d
-  lent = take-cube support d short
+      short : length s.support.now ≤ 20
+      short = (passes table_limit _ _ _ _ _ ok.passes).short
 
-  lent_cells : count ≡ cells (take (length support) (replicate 20 d))
-  lent_cells = s.counted ∙ ap cells (sym lent)
+      count-le : count ≤ 65536
+      count-le = le_trans (le_of_eq ok.counted) (settings-cells-le table_limit _ _ _ _ _ ok.passes)
 
-  count-le : count ≤ 65536
-  count-le = le_trans (le_of_eq s.counted) (settings-cells-le table_limit _ _ _ _ _ s.passes)
+      -- over the degrees that are lent
+      module _ {ds : List ℕ} (lent : ds ≡ degrees_of s) where
+        lent_cells : count ≡ cells ds
+        lent_cells = ok.counted ∙ ap cells (sym lent)
 
--- the answer says the room
-room_costs_of : (total w : ℕ) (support : List ℕ) (d : ℕ) (r : RecoveryRoom) → r ≡ recovery_room_lem total w support (cube support d) →
-    Costs (length support) d r
-room_costs_of total w support d r e = subst (Costs (length support) d) (sym e) (room_costs total w support d)
+        lent_short : length ds ≤ 20
+        lent_short = le_trans (le_of_eq (ap length lent ∙ length-replicate (length s.support.now) s.max_degree)) short
 
-pub slice_bounds-degrees-end : goal.slice_bounds-degrees-end
-slice_bounds-degrees-end c = short c.args.max_degree (ok c.args.total c.args.bitwidth _ c.args.support.now c.args.max_degree _ c.check.ensures c.in-Value.is)
+        passed : {m : ℕ} → m ≡ subtractions ds → room_told 0 count m ≡ recovery_room_lem s.total s.bitwidth s.support.now (degrees_of s)
+        passed q = room_passed s.total s.bitwidth s.support.now (degrees_of s) _ _ ok.passes ok.counted (q ∙ ap subtractions lent)
 
-pub slice_bounds-count_subtractions-end : goal.slice_bounds-count_subtractions-end
-slice_bounds-count_subtractions-end c =
-    sym (length-take-le _ _ (short c.args.max_degree (ok c.args.total c.args.bitwidth _ c.args.support.now c.args.max_degree _ c.check.ensures c.in-Value.is)))
+pub returns-in_err-cells : goal.returns-in_err-cells
+returns-in_err-cells c =
+    let s = c.args.settings.now in
+    let says = ap room_said (handed_on _ c.from_residual.ensures.1) ∙ turned s c.check.ensures c.in_err-cells.was in
+    record { says = says; costs = costs_of s says }
 
-pub count_subtractions-requires : goal.count_subtractions-requires
-count_subtractions-requires c =
-    let s = ok c.args.total c.args.bitwidth _ c.args.support.now c.args.max_degree _ c.check.ensures c.in-Value.is in
-    let d = c.args.max_degree in
-    (lent_cells d s, count-le d s, le_trans (le_of_eq (length-take-le _ _ (short d s))) (short d s))
+pub count_subtractions-subtractions-requires : goal.count_subtractions-subtractions-requires
+count_subtractions-subtractions-requires c =
+    let s = c.args.settings.now in
+    let few = short s c.check.ensures c.in_ok-cells.was in
+    let lent = c.as_slice.ensures ∙ c.degrees-degrees.ensures.all few in
+    (lent_cells s c.check.ensures c.in_ok-cells.was lent, count-le s c.check.ensures c.in_ok-cells.was, lent_short s c.check.ensures c.in_ok-cells.was lent)
 
-pub returns-in-Refused-clause-says : goal.returns-in-Refused-clause-says
-returns-in-Refused-clause-says c =
-    let u = turned c.args.total c.args.bitwidth _ c.args.support.now c.args.max_degree _ c.check.ensures c.in-Refused.is in
-    room_turned c.args.total c.args.bitwidth c.args.support.now (cube c.args.support.now c.args.max_degree) c.in-Refused.refusal u.refuses
-
-pub returns-in-Refused-clause-costs : goal.returns-in-Refused-clause-costs
-returns-in-Refused-clause-costs c =
-    let u = turned c.args.total c.args.bitwidth _ c.args.support.now c.args.max_degree _ c.check.ensures c.in-Refused.is in
-    room_costs_of c.args.total c.args.bitwidth c.args.support.now c.args.max_degree _
-    (room_turned c.args.total c.args.bitwidth c.args.support.now (cube c.args.support.now c.args.max_degree) c.in-Refused.refusal u.refuses)
-
-pub returns-in-Value-clause-says : goal.returns-in-Value-clause-says
-returns-in-Value-clause-says c =
-    let s = ok c.args.total c.args.bitwidth _ c.args.support.now c.args.max_degree _ c.check.ensures c.in-Value.is in
-    room_passed c.args.total c.args.bitwidth c.args.support.now (cube c.args.support.now c.args.max_degree) _ _ s.passes s.counted
-    (c.count_subtractions.ensures ∙ ap subtractions (lent c.args.max_degree s))
-
-pub returns-in-Value-clause-costs : goal.returns-in-Value-clause-costs
-returns-in-Value-clause-costs c =
-    let s = ok c.args.total c.args.bitwidth _ c.args.support.now c.args.max_degree _ c.check.ensures c.in-Value.is in
-    room_costs_of c.args.total c.args.bitwidth c.args.support.now c.args.max_degree _
-    (room_passed c.args.total c.args.bitwidth c.args.support.now (cube c.args.support.now c.args.max_degree) _ _ s.passes s.counted
-    (c.count_subtractions.ensures ∙ ap subtractions (lent c.args.max_degree s)))
+pub returns : goal.returns
+returns c =
+    let s = c.args.settings.now in
+    let few = short s c.check.ensures c.in_ok-cells.was in
+    let says =
+    passed s c.check.ensures c.in_ok-cells.was (c.as_slice.ensures ∙ c.degrees-degrees.ensures.all few) c.count_subtractions-subtractions.ensures in
+    record { says = says; costs = costs_of s says }

@@ -1,166 +1,104 @@
--- Both forms are checked; then totals and widths, and the boxes with the degrees cut to the variables.
-use Rattle.std.proofs.Common.{true, false, replicate, sym, ◌∙◌, ne_eqb}
-use Rattle.std.proofs.Math.Seq.{length-take-le}
-use Rattle.settings.specs.Forms.{cube_form}
-use Rattle.sameness.proofs.Replies.{same_first, same_second, totals_differ, widths_differ, both_decide}
-use Rattle.sameness.proofs.Replies.{cube_each, short, places, width, cut, boxed, as_forms}
+-- Both forms are checked; then totals and widths, and the boxes with the degrees of their settings.
+use Rattle.std.proofs.Common.{◌≡◌, ℕ, ◌∙◌, ne_eqb}
+use Rattle.meaning.specs.Calls.{form_number}
+use Rattle.answers.specs.Laws.{handed_on}
+use Rattle.settings.specs.Forms.{form_lent, degrees_of}
+use Rattle.sameness.proofs.Replies.{form_passes, form_turned, same_first, same_second, totals_differ, widths_differ, both_decide}
+use Rattle.sameness.proofs.Replies.{cube_each, short, places, width, boxed, as_forms}
 use Rattle.sameness.proofs.same.Goals as goal
+use Rattle.sameness.proofs.same.Goals.{In_ok-check_form, In_ok-check_form-2, After-as_slice, After-as_slice-2}
 
-pub returns-in-Refused-clause-says : goal.returns-in-Refused-clause-says
-returns-in-Refused-clause-says c =
-    let k = c.args in
-    let f = cube_form k.total1 k.bitwidth1 k.support1.now k.max_degree1 k.coeffs1.now in
-    let g = cube_form k.total2 k.bitwidth2 k.support2.now k.max_degree2 k.coeffs2.now in
-    let x = cube_each k.support1.now k.max_degree1 in
-    let y = cube_each k.support2.now k.max_degree2 in
-    (same_first f g x y c.in-Refused.refusal c.in-Refused.ensures).0
+-- the first form passes, and the second
+first : (c : In_ok-check_form) → ◌≡◌ {A = ℕ} 0 (form_number (form_lent c.args.form1.now))
+first c = form_passes (form_lent c.args.form1.now) c.check_form.ensures c.in_ok-check_form.was
 
-pub returns-in-Refused-clause-compares : goal.returns-in-Refused-clause-compares
-returns-in-Refused-clause-compares c =
-    let k = c.args in
-    let f = cube_form k.total1 k.bitwidth1 k.support1.now k.max_degree1 k.coeffs1.now in
-    let g = cube_form k.total2 k.bitwidth2 k.support2.now k.max_degree2 k.coeffs2.now in
-    let x = cube_each k.support1.now k.max_degree1 in
-    let y = cube_each k.support2.now k.max_degree2 in
-    (same_first f g x y c.in-Refused.refusal c.in-Refused.ensures).1
+second : (c : In_ok-check_form-2) → ◌≡◌ {A = ℕ} 0 (form_number (form_lent c.args.form2.now))
+second c = form_passes (form_lent c.args.form2.now) c.check_form-2.ensures c.in_ok-check_form-2.was
 
-pub returns-in-Refused-check_form-clause-says : goal.returns-in-Refused-check_form-clause-says
-returns-in-Refused-check_form-clause-says c =
-    let k = c.args in
-    let f = cube_form k.total1 k.bitwidth1 k.support1.now k.max_degree1 k.coeffs1.now in
-    let g = cube_form k.total2 k.bitwidth2 k.support2.now k.max_degree2 k.coeffs2.now in
-    let x = cube_each k.support1.now k.max_degree1 in
-    let y = cube_each k.support2.now k.max_degree2 in
-    (same_second f g x y c.in-Accepted.ensures c.in-Refused-check_form.refusal c.in-Refused-check_form.ensures).0
+-- the degrees that are lent on
+degrees1 : (c : After-as_slice) → c.as_slice.result.now ≡ degrees_of c.args.form1.now.settings
+degrees1 c =
+    let f = c.args.form1.now in
+    c.as_slice.ensures ∙ c.degrees-degrees1.ensures.all
+    (short f.settings f.coeffs.now (form_passes (form_lent f) c.check_form.ensures c.in_ok-check_form.was))
 
-pub returns-in-Refused-check_form-clause-compares : goal.returns-in-Refused-check_form-clause-compares
-returns-in-Refused-check_form-clause-compares c =
-    let k = c.args in
-    let f = cube_form k.total1 k.bitwidth1 k.support1.now k.max_degree1 k.coeffs1.now in
-    let g = cube_form k.total2 k.bitwidth2 k.support2.now k.max_degree2 k.coeffs2.now in
-    let x = cube_each k.support1.now k.max_degree1 in
-    let y = cube_each k.support2.now k.max_degree2 in
-    (same_second f g x y c.in-Accepted.ensures c.in-Refused-check_form.refusal c.in-Refused-check_form.ensures).1
+degrees2 : (c : After-as_slice-2) → c.as_slice-2.result.now ≡ degrees_of c.args.form2.now.settings
+degrees2 c =
+    let g = c.args.form2.now in
+    c.as_slice-2.ensures ∙ c.degrees-degrees2.ensures.all
+    (short g.settings g.coeffs.now (form_passes (form_lent g) c.check_form-2.ensures c.in_ok-check_form-2.was))
 
-pub returns-then-total1-total2-clause-says : goal.returns-then-total1-total2-clause-says
-returns-then-total1-total2-clause-says c =
-    let k = c.args in
-    let f = cube_form k.total1 k.bitwidth1 k.support1.now k.max_degree1 k.coeffs1.now in
-    let g = cube_form k.total2 k.bitwidth2 k.support2.now k.max_degree2 k.coeffs2.now in
-    let x = cube_each k.support1.now k.max_degree1 in
-    let y = cube_each k.support2.now k.max_degree2 in
-    (totals_differ f g x y c.in-Accepted.ensures c.in-Accepted-check_form.ensures (ne_eqb _ _ c.if-total1-total2.true)).0
+pub returns-in_err-check_form : goal.returns-in_err-check_form
+returns-in_err-check_form c =
+    let f = c.args.form1.now in
+    let g = c.args.form2.now in
+    let x = same_first (form_lent f) (form_lent g) (cube_each f.settings) (cube_each g.settings) _
+    (form_turned (form_lent f) c.check_form.ensures c.in_err-check_form.was) in
+    rw (handed_on _ c.from_residual.ensures.1) (record { says = x.0; compares = x.1 })
 
-pub returns-then-total1-total2-clause-compares : goal.returns-then-total1-total2-clause-compares
-returns-then-total1-total2-clause-compares c =
-    let k = c.args in
-    let f = cube_form k.total1 k.bitwidth1 k.support1.now k.max_degree1 k.coeffs1.now in
-    let g = cube_form k.total2 k.bitwidth2 k.support2.now k.max_degree2 k.coeffs2.now in
-    let x = cube_each k.support1.now k.max_degree1 in
-    let y = cube_each k.support2.now k.max_degree2 in
-    (totals_differ f g x y c.in-Accepted.ensures c.in-Accepted-check_form.ensures (ne_eqb _ _ c.if-total1-total2.true)).1
+pub returns-in_err-check_form-2 : goal.returns-in_err-check_form-2
+returns-in_err-check_form-2 c =
+    let f = c.args.form1.now in
+    let g = c.args.form2.now in
+    let k = goal.at.returns-in_err-check_form-2 c in
+    let x = same_second (form_lent f) (form_lent g) (cube_each f.settings) (cube_each g.settings) (first k.In_ok-check_form) _
+    (form_turned (form_lent g) c.check_form-2.ensures c.in_err-check_form-2.was) in
+    rw (handed_on _ c.from_residual-in_err-check_form-2.ensures.1) (record { says = x.0; compares = x.1 })
 
-pub returns-then-bitwidth1-bitwidth2-clause-says : goal.returns-then-bitwidth1-bitwidth2-clause-says
-returns-then-bitwidth1-bitwidth2-clause-says c =
-    let k = c.args in
-    let f = cube_form k.total1 k.bitwidth1 k.support1.now k.max_degree1 k.coeffs1.now in
-    let g = cube_form k.total2 k.bitwidth2 k.support2.now k.max_degree2 k.coeffs2.now in
-    let x = cube_each k.support1.now k.max_degree1 in
-    let y = cube_each k.support2.now k.max_degree2 in
-    (widths_differ f g x y c.in-Accepted.ensures c.in-Accepted-check_form.ensures c.if-total1-total2.false (ne_eqb _ _ c.if-bitwidth1-bitwidth2.true)).0
+pub returns-then-form1-form2 : goal.returns-then-form1-form2
+returns-then-form1-form2 c =
+    let f = c.args.form1.now in
+    let g = c.args.form2.now in
+    let k = goal.at.returns-then-form1-form2 c in
+    let x = totals_differ (form_lent f) (form_lent g) (cube_each f.settings) (cube_each g.settings) (first k.In_ok-check_form) (second k.In_ok-check_form-2)
+    (ne_eqb _ _ c.if-form1-form2.true) in
+    record { says = x.0; compares = x.1 }
 
-pub returns-then-bitwidth1-bitwidth2-clause-compares : goal.returns-then-bitwidth1-bitwidth2-clause-compares
-returns-then-bitwidth1-bitwidth2-clause-compares c =
-    let k = c.args in
-    let f = cube_form k.total1 k.bitwidth1 k.support1.now k.max_degree1 k.coeffs1.now in
-    let g = cube_form k.total2 k.bitwidth2 k.support2.now k.max_degree2 k.coeffs2.now in
-    let x = cube_each k.support1.now k.max_degree1 in
-    let y = cube_each k.support2.now k.max_degree2 in
-    (widths_differ f g x y c.in-Accepted.ensures c.in-Accepted-check_form.ensures c.if-total1-total2.false (ne_eqb _ _ c.if-bitwidth1-bitwidth2.true)).1
+pub returns-then-form1-form2-2 : goal.returns-then-form1-form2-2
+returns-then-form1-form2-2 c =
+    let f = c.args.form1.now in
+    let g = c.args.form2.now in
+    let k = goal.at.returns-then-form1-form2-2 c in
+    let x = widths_differ (form_lent f) (form_lent g) (cube_each f.settings) (cube_each g.settings) (first k.In_ok-check_form) (second k.In_ok-check_form-2)
+    c.if-form1-form2.false (ne_eqb _ _ c.if-form1-form2-2.true) in
+    record { says = x.0; compares = x.1 }
 
-pub slice_bounds-degrees1-end : goal.slice_bounds-degrees1-end
-slice_bounds-degrees1-end c =
-    let k = c.args in
-    short k.total1 k.bitwidth1 k.support1.now k.max_degree1 k.coeffs1.now c.in-Accepted.ensures
+pub invariant_of-checked1 : goal.invariant_of-checked1
+invariant_of-checked1 c =
+    let f = c.args.form1.now in
+    let k = goal.at.invariant_of-checked1 c in
+    record { boxed = boxed f.settings f.coeffs.now (first k.In_ok-check_form) (degrees1 k.After-as_slice) }
 
-pub slice_bounds-same_boxes-end : goal.slice_bounds-same_boxes-end
-slice_bounds-same_boxes-end c =
-    let k = c.args in
-    sym (length-take-le _ (replicate 20 k.max_degree1) (short k.total1 k.bitwidth1 k.support1.now k.max_degree1 k.coeffs1.now c.in-Accepted.ensures))
+pub invariant_of-checked2 : goal.invariant_of-checked2
+invariant_of-checked2 c =
+    let g = c.args.form2.now in
+    let k = goal.at.invariant_of-checked2 c in
+    record { boxed = boxed g.settings g.coeffs.now (second k.In_ok-check_form-2) (degrees2 k.After-as_slice-2) }
 
-pub slice_bounds-degrees2-end : goal.slice_bounds-degrees2-end
-slice_bounds-degrees2-end c =
-    let k = c.args in
-    short k.total2 k.bitwidth2 k.support2.now k.max_degree2 k.coeffs2.now c.in-Accepted-check_form.ensures
-
-pub slice_bounds-same_boxes-end-2 : goal.slice_bounds-same_boxes-end-2
-slice_bounds-same_boxes-end-2 c =
-    let k = c.args in
-    sym (length-take-le _ (replicate 20 k.max_degree2) (short k.total2 k.bitwidth2 k.support2.now k.max_degree2 k.coeffs2.now c.in-Accepted-check_form.ensures))
-
-pub same_boxes-requires-clause-boxed : goal.same_boxes-requires-clause-boxed
-same_boxes-requires-clause-boxed c =
-    let k = c.args in (
-      boxed k.total1 k.bitwidth1 k.support1.now k.max_degree1 k.coeffs1.now c.in-Accepted.ensures,
-      boxed k.total2 k.bitwidth2 k.support2.now k.max_degree2 k.coeffs2.now c.in-Accepted-check_form.ensures,
-      width k.total1 k.bitwidth1 k.support1.now k.max_degree1 k.coeffs1.now c.in-Accepted.ensures,
-    )
+pub same_boxes-requires-clause-few : goal.same_boxes-requires-clause-few
+same_boxes-requires-clause-few c =
+    let f = c.args.form1.now in
+    width f.settings f.coeffs.now (first (goal.at.same_boxes-requires-clause-few c).In_ok-check_form)
 
 pub same_boxes-requires-clause-places : goal.same_boxes-requires-clause-places
 same_boxes-requires-clause-places c =
-    let k = c.args in (
-      places k.total1 k.bitwidth1 k.support1.now k.max_degree1 k.coeffs1.now c.in-Accepted.ensures,
-      rw c.if-total1-total2.false (places k.total2 k.bitwidth2 k.support2.now k.max_degree2 k.coeffs2.now c.in-Accepted-check_form.ensures),
+    let f = c.args.form1.now in
+    let g = c.args.form2.now in
+    let k = goal.at.same_boxes-requires-clause-places c in (
+      places f.settings f.coeffs.now (first k.In_ok-check_form),
+      rw c.if-form1-form2.false (places g.settings g.coeffs.now (second k.In_ok-check_form-2)),
     )
 
-pub returns-then-same_boxes-clause-says : goal.returns-then-same_boxes-clause-says
-returns-then-same_boxes-clause-says c =
-    let k = c.args in
-    let f = cube_form k.total1 k.bitwidth1 k.support1.now k.max_degree1 k.coeffs1.now in
-    let g = cube_form k.total2 k.bitwidth2 k.support2.now k.max_degree2 k.coeffs2.now in
-    let x = cube_each k.support1.now k.max_degree1 in
-    let y = cube_each k.support2.now k.max_degree2 in
+pub returns : goal.returns
+returns c =
+    let f = c.args.form1.now in
+    let g = c.args.form2.now in
+    let k = goal.at.returns c in
+    let totals = c.if-form1-form2.false in
+    let widths = c.if-form1-form2-2.false in
     let answer = c.same_boxes.ensures
-    ∙ as_forms k.total1 k.bitwidth1 k.support1.now k.coeffs1.now k.support2.now k.coeffs2.now c.if-total1-total2.false c.if-bitwidth1-bitwidth2.false
-    (cut k.total1 k.bitwidth1 k.support1.now k.max_degree1 k.coeffs1.now c.in-Accepted.ensures)
-    (cut k.total2 k.bitwidth2 k.support2.now k.max_degree2 k.coeffs2.now c.in-Accepted-check_form.ensures) in
-    (both_decide f g x y c.in-Accepted.ensures c.in-Accepted-check_form.ensures c.if-total1-total2.false c.if-bitwidth1-bitwidth2.false {b = true} (sym c.if-same_boxes.true ∙ answer)).0
-
-pub returns-then-same_boxes-clause-compares : goal.returns-then-same_boxes-clause-compares
-returns-then-same_boxes-clause-compares c =
-    let k = c.args in
-    let f = cube_form k.total1 k.bitwidth1 k.support1.now k.max_degree1 k.coeffs1.now in
-    let g = cube_form k.total2 k.bitwidth2 k.support2.now k.max_degree2 k.coeffs2.now in
-    let x = cube_each k.support1.now k.max_degree1 in
-    let y = cube_each k.support2.now k.max_degree2 in
-    let answer = c.same_boxes.ensures
-    ∙ as_forms k.total1 k.bitwidth1 k.support1.now k.coeffs1.now k.support2.now k.coeffs2.now c.if-total1-total2.false c.if-bitwidth1-bitwidth2.false
-    (cut k.total1 k.bitwidth1 k.support1.now k.max_degree1 k.coeffs1.now c.in-Accepted.ensures)
-    (cut k.total2 k.bitwidth2 k.support2.now k.max_degree2 k.coeffs2.now c.in-Accepted-check_form.ensures) in
-    (both_decide f g x y c.in-Accepted.ensures c.in-Accepted-check_form.ensures c.if-total1-total2.false c.if-bitwidth1-bitwidth2.false {b = true} (sym c.if-same_boxes.true ∙ answer)).1
-
-pub returns-clause-says : goal.returns-clause-says
-returns-clause-says c =
-    let k = c.args in
-    let f = cube_form k.total1 k.bitwidth1 k.support1.now k.max_degree1 k.coeffs1.now in
-    let g = cube_form k.total2 k.bitwidth2 k.support2.now k.max_degree2 k.coeffs2.now in
-    let x = cube_each k.support1.now k.max_degree1 in
-    let y = cube_each k.support2.now k.max_degree2 in
-    let answer = c.same_boxes.ensures
-    ∙ as_forms k.total1 k.bitwidth1 k.support1.now k.coeffs1.now k.support2.now k.coeffs2.now c.if-total1-total2.false c.if-bitwidth1-bitwidth2.false
-    (cut k.total1 k.bitwidth1 k.support1.now k.max_degree1 k.coeffs1.now c.in-Accepted.ensures)
-    (cut k.total2 k.bitwidth2 k.support2.now k.max_degree2 k.coeffs2.now c.in-Accepted-check_form.ensures) in
-    (both_decide f g x y c.in-Accepted.ensures c.in-Accepted-check_form.ensures c.if-total1-total2.false c.if-bitwidth1-bitwidth2.false {b = false} (sym c.if-same_boxes.false ∙ answer)).0
-
-pub returns-clause-compares : goal.returns-clause-compares
-returns-clause-compares c =
-    let k = c.args in
-    let f = cube_form k.total1 k.bitwidth1 k.support1.now k.max_degree1 k.coeffs1.now in
-    let g = cube_form k.total2 k.bitwidth2 k.support2.now k.max_degree2 k.coeffs2.now in
-    let x = cube_each k.support1.now k.max_degree1 in
-    let y = cube_each k.support2.now k.max_degree2 in
-    let answer = c.same_boxes.ensures
-    ∙ as_forms k.total1 k.bitwidth1 k.support1.now k.coeffs1.now k.support2.now k.coeffs2.now c.if-total1-total2.false c.if-bitwidth1-bitwidth2.false
-    (cut k.total1 k.bitwidth1 k.support1.now k.max_degree1 k.coeffs1.now c.in-Accepted.ensures)
-    (cut k.total2 k.bitwidth2 k.support2.now k.max_degree2 k.coeffs2.now c.in-Accepted-check_form.ensures) in
-    (both_decide f g x y c.in-Accepted.ensures c.in-Accepted-check_form.ensures c.if-total1-total2.false c.if-bitwidth1-bitwidth2.false {b = false} (sym c.if-same_boxes.false ∙ answer)).1
+    ∙ as_forms f.settings.total f.settings.bitwidth f.settings.support.now f.coeffs.now g.settings.support.now g.coeffs.now totals widths
+    (degrees1 k.After-as_slice) (degrees2 k.After-as_slice-2) in
+    let x = both_decide (form_lent f) (form_lent g) (cube_each f.settings) (cube_each g.settings) (first k.In_ok-check_form) (second k.In_ok-check_form-2)
+    totals widths {b = c.same_boxes.result} answer in
+    record { says = x.0; compares = x.1 }

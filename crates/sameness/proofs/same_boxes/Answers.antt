@@ -3,39 +3,49 @@ use Rattle.std.proofs.Common.{sym, ◌∙◌}
 use Rattle.sameness.proofs.BothWays.{walked-matched, covered, straight, first_decides, second_fails}
 use Rattle.sameness.proofs.same_boxes.Goals as goal
 
-pub returns-then-same_settings : goal.returns-then-same_settings
-returns-then-same_settings c =
-    let p = c.requires.boxed in
+pub returns-then-has_box_of : goal.returns-then-has_box_of
+returns-then-has_box_of c =
+    let k = c.args in
+    let p = k.form1.now.boxed in
+    let p' = k.form2.now.boxed in
     let q = c.requires.places in
-    let e = c.same_settings.ensures c.if-same_settings.true in
-    straight c.args.total c.args.bits p.0 p.1 q.0 q.1 e.0 e.1 p.2 _ c.agree.ensures
+    let e = c.has_box_of.ensures c.if-has_box_of.true in
+    straight k.total k.bits p p' q.0 q.1 e.0 e.1 c.requires.few _ c.agree.ensures
 
-pub returns-then-inside : goal.returns-then-inside
-returns-then-inside c =
-    let p = c.requires.boxed in
+pub returns-then-lies_within : goal.returns-then-lies_within
+returns-then-lies_within c =
+    let k = c.args in
+    let p = k.form1.now.boxed in
+    let p' = k.form2.now.boxed in
     let q = c.requires.places in
-    c.matched_forms.ensures
-    ∙ walked-matched c.args.total c.args.bits p.0 p.1 q.0 q.1
-    ∙ first_decides _ _ (covered c.args.total c.args.bits p.0 p.1 q.0 q.1 (sym c.inside.ensures ∙ c.if-inside.true))
+    c.matched_in.ensures
+    ∙ walked-matched k.total k.bits p p' q.0 q.1
+    ∙ first_decides _ _ (covered k.total k.bits p p' q.0 q.1 (sym c.lies_within.ensures ∙ c.if-lies_within.true))
 
-pub returns-then-not-matched_forms : goal.returns-then-not-matched_forms
-returns-then-not-matched_forms c =
-    let p = c.requires.boxed in
+pub returns-then-not-matched_in : goal.returns-then-not-matched_in
+returns-then-not-matched_in c =
+    let k = c.args in
+    let p = k.form1.now.boxed in
+    let p' = k.form2.now.boxed in
     let q = c.requires.places in
-    let second = c.matched_forms-2.ensures ∙ walked-matched c.args.total c.args.bits p.1 p.0 q.1 q.0 in
-    second_fails _ (sym second ∙ c.if-not-matched_forms.true)
+    let second = c.matched_in-2.ensures ∙ walked-matched k.total k.bits p' p q.1 q.0 in
+    second_fails _ (sym second ∙ c.if-not-matched_in.true)
 
-pub returns-then-inside-2 : goal.returns-then-inside-2
-returns-then-inside-2 c =
-    let p = c.requires.boxed in
+pub returns-then-lies_within-2 : goal.returns-then-lies_within-2
+returns-then-lies_within-2 c =
+    let k = c.args in
+    let p = k.form1.now.boxed in
+    let p' = k.form2.now.boxed in
     let q = c.requires.places in
-    let both = sym (c.matched_forms-2.ensures ∙ walked-matched c.args.total c.args.bits p.1 p.0 q.1 q.0) ∙ c.if-not-matched_forms.false in
-    let first = covered c.args.total c.args.bits p.1 p.0 q.1 q.0 (sym c.inside-2.ensures ∙ c.if-inside-2.true) both in
+    let both = sym (c.matched_in-2.ensures ∙ walked-matched k.total k.bits p' p q.1 q.0) ∙ c.if-not-matched_in.false in
+    let first = covered k.total k.bits p' p q.1 q.0 (sym c.lies_within-2.ensures ∙ c.if-lies_within-2.true) both in
     sym first ∙ first_decides _ _ (λ h. both)
 
 pub returns : goal.returns
 returns c =
-    let p = c.requires.boxed in
+    let k = c.args in
+    let p = k.form1.now.boxed in
+    let p' = k.form2.now.boxed in
     let q = c.requires.places in
-    let both = sym (c.matched_forms-2.ensures ∙ walked-matched c.args.total c.args.bits p.1 p.0 q.1 q.0) ∙ c.if-not-matched_forms.false in
-    c.matched_forms-3.ensures ∙ walked-matched c.args.total c.args.bits p.0 p.1 q.0 q.1 ∙ first_decides _ _ (λ h. both)
+    let both = sym (c.matched_in-2.ensures ∙ walked-matched k.total k.bits p' p q.1 q.0) ∙ c.if-not-matched_in.false in
+    c.matched_in-3.ensures ∙ walked-matched k.total k.bits p p' q.0 q.1 ∙ first_decides _ _ (λ h. both)

@@ -9,16 +9,16 @@ use Rattle.settings.proofs.count_cells.Goals as goal
 pub returns-then-most-count : goal.returns-then-most-count
 returns-then-most-count c =
     let k = c.args in
-    let next = counted_next k.degrees.now c.loop-i.count c.loop-i.i c.loop-i.invariant.0 c.loop-i-test.true in
-    sym (min-eq_right (omega (arith, c.if-most-count.true, counted-le k.degrees.now _ (c.loop-i.i + 1) next)))
+    let next = counted_next k.degrees.now c.loop-degree.count c.loop-degree.degree-index c.loop-degree.invariant.0 c.loop-degree-test.true in
+    sym (min-eq_right (omega (arith, c.if-most-count.true, counted-le k.degrees.now _ (c.loop-degree.degree-index + 1) next)))
 
-pub loop-i-preserved : goal.loop-i-preserved
-loop-i-preserved c =
+pub loop-degree-preserved : goal.loop-degree-preserved
+loop-degree-preserved c =
     let k = c.args in
-    (counted_next k.degrees.now c.loop-i.count c.loop-i.i c.loop-i.invariant.0 c.loop-i-test.true, omega (arith, c.if-most-count.false))
+    (counted_next k.degrees.now c.loop-degree.count c.loop-degree.degree-index c.loop-degree.invariant.0 c.loop-degree-test.true, omega (arith, c.if-most-count.false))
 
 pub returns : goal.returns
 returns c =
     let k = c.args in
-    let all = counted-end k.degrees.now c.loop-i.count c.loop-i.i c.loop-i.invariant.0 c.loop-i-test.false in
+    let all = counted-end k.degrees.now c.loop-degree.count c.loop-degree.degree-index c.loop-degree.invariant.0 c.loop-degree-test.false in
     sym (min-eq_left (omega (arith, all)) ∙ all)

@@ -1,15 +1,19 @@
--- The text of `answer_head` is what the layout says of any bytes that lead to this reader and this table (`text_says`).
-use mathlib.Core.Path.{◌∙◌, ap}
-use mathlib.Core.List.{List}
-use Prim.Native.Nat.{ℕ}
+-- The text of `answer_settings` is what the layout says of any bytes that lead to this reader and this table (`text_asked`, `text_says`).
+use Rattle.std.proofs.Common.{List, ℕ, ◌∙◌, ap, rules}
 use Rattle.bench_file.specs.Printed.{printed, printed_size}
-use Rattle.bench_file.specs.declared.reader.Reading.{Reading}
-use Rattle.bench.specs.Answers.{low_head, text_of}
-use Rattle.bench.proofs.InputLaws.{text_says}
+use Rattle.bench.proofs.InputLaws.{SaidBy, asked_text}
 use Rattle.bench.proofs.answer.answer_text.Goals as goal
 
 pub returns-clause-says : goal.returns-clause-says
-returns-clause-says c = let k = c.args in (λ bs x f s. c.answer_head.ensures.says ∙ ap (λ (t : List ℕ). printed_size t k.out.now) ((let k = c.args in ap (λ (y : Reading). text_of y (low_head k.reader.head) k.reader.count k.values.now) c.reading.ensures ∙ text_says k.reader k.values.now bs x f s)))
+returns-clause-says c =
+    let k = c.args in
+    let s = c.settings_of-settings in
+    let head : SaidBy k.reader.head s.result = record { width = s.ensures.width; total = s.ensures.total; degree = s.ensures.degree; support = s.ensures.support } in
+    λ bs x f e. c.answer_settings.ensures.says ∙ ap (λ (t : List ℕ). printed_size t k.out.now) (asked_text k.reader s.result head (search rules) _ c.reading.ensures k.values.now bs x f e)
 
 pub returns-clause-leaves : goal.returns-clause-leaves
-returns-clause-leaves c = let k = c.args in (λ bs x f s. c.answer_head.ensures.leaves ∙ ap (λ (t : List ℕ). printed t k.out.now) ((let k = c.args in ap (λ (y : Reading). text_of y (low_head k.reader.head) k.reader.count k.values.now) c.reading.ensures ∙ text_says k.reader k.values.now bs x f s)))
+returns-clause-leaves c =
+    let k = c.args in
+    let s = c.settings_of-settings in
+    let head : SaidBy k.reader.head s.result = record { width = s.ensures.width; total = s.ensures.total; degree = s.ensures.degree; support = s.ensures.support } in
+    λ bs x f e. c.answer_settings.ensures.leaves ∙ ap (λ (t : List ℕ). printed t k.out.now) (asked_text k.reader s.result head (search rules) _ c.reading.ensures k.values.now bs x f e)

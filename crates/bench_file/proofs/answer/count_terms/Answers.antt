@@ -1,14 +1,10 @@
--- The loop: the count and the non-zero coefficients from i on make the whole count, which is at most the length, so that the sum fits;
--- the measure is what is left.
-use native.Mathlib.Omega.{arith}
-use Rattle.bench_file.specs.PrintLaws.{non_zeros_next, non_zeros-end, non_zeros_few}
+-- The chain gives the count by a test, which is that of the non-zero entries.
+use Rattle.std.proofs.Common.{rules, sym, ◌∙◌, ◌≡◌, not, eqb, count_by}
+use Rattle.std.proofs.iter.runs.Made.{chains}
+use Rattle.bench_file.specs.PrintLaws.{non_zeros_count}
 use Rattle.bench_file.proofs.answer.count_terms.Goals as goal
 
-pub overflow_add-found : goal.overflow_add-found
-overflow_add-found c = omega (arith, non_zeros_next c.args.coefficients.now c.loop-i.i c.loop-i-test.true, c.loop-i.invariant.1, c.one_term-found.ensures, non_zeros_few c.args.coefficients.now)
-
-pub loop-i-preserved : goal.loop-i-preserved
-loop-i-preserved c = (omega arith, omega (arith, non_zeros_next c.args.coefficients.now c.loop-i.i c.loop-i-test.true, c.loop-i.invariant.1, c.one_term-found.ensures))
-
 pub returns : goal.returns
-returns c = omega (arith, non_zeros-end c.args.coefficients.now c.loop-i.i c.loop-i-test.false, c.loop-i.invariant.1)
+returns c =
+    let e : c.count.result ≡ count_by (λ x. not (eqb x 0)) c.args.coefficients.now = search (rules, chains) in
+    e ∙ sym (non_zeros_count c.args.coefficients.now)

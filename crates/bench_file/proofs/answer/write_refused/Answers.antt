@@ -1,36 +1,26 @@
--- The text of a refusal has 22 bytes. In a shorter buffer there is no room; else the number and a line end are the text (`refused_stored`).
-use mathlib.Core.Path.{◌≡◌, sym, ◌∙◌, ap}
-use native.Mathlib.Omega.{arith}
-use Prim.Native.Nat.{◌+◌, ◌≤◌, ◌<◌}
-use lib.ListN.{length}
+-- The text of a refusal has 22 bytes. In a shorter buffer there is no room; else the number and a line end are the text (`refused_line`).
+use Rattle.std.proofs.Common.{◌≤◌, ◌<◌, [], length, sym, arith, rules, refl}
 use Rattle.bench_file.specs.Layout.{refused_text}
-use Rattle.bench_file.specs.PrintLaws.{length-refused}
-use Rattle.bench_file.specs.AnswerLaws.{printed_whole, printed_size_lem, printed_none, printed_no_size, refused_stored}
-use Rattle.bench_file.specs.declared.answer.Written.{Written}
+use Rattle.bench_file.specs.NumberLaws.{length-number}
+use Rattle.bench_file.specs.PrintLaws.{length-refused, writes_then, writes_same, writes_length}
+use Rattle.bench_file.specs.AnswerLaws.{printed_none, printed_no_size, refused_line, writes-size, writes-whole}
 use Rattle.bench_file.proofs.answer.write_refused.Goals as goal
 
-pub returns-then-out-lt22-clause-says : goal.returns-then-out-lt22-clause-says
-returns-then-out-lt22-clause-says c =
-    let k = c.args in
-    let short : length k.out.now < length (refused_text k.code) = omega (arith, length-refused k.code, c.if-out-lt22.true) in
-    sym (printed_no_size (refused_text k.code) k.out.now short)
+pub returns-then-out-lt22 : goal.returns-then-out-lt22
+returns-then-out-lt22 c =
+    let text = refused_text c.args.code in
+    let short : length c.args.out.now < length text = omega (arith, length-refused c.args.code, c.if-out-lt22.true) in
+    record { says = sym (printed_no_size text c.args.out.now short); leaves = sym (printed_none text c.args.out.now short) }
 
-pub returns-then-out-lt22-clause-leaves : goal.returns-then-out-lt22-clause-leaves
-returns-then-out-lt22-clause-leaves c =
-    let k = c.args in
-    let short : length k.out.now < length (refused_text k.code) = omega (arith, length-refused k.code, c.if-out-lt22.true) in
-    sym (printed_none (refused_text k.code) k.out.now short)
+pub line_end-requires : goal.line_end-requires
+line_end-requires c = omega (arith, writes_length _ _ _ c.number.ensures, c.number.ensures.size, length-number c.from.result)
 
-pub returns-clause-says : goal.returns-clause-says
-returns-clause-says c =
-    let k = c.args in
-    let room : length (refused_text k.code) ≤ length k.out.now = omega (arith, length-refused k.code, c.if-out-lt22.false) in
-    let size : c.put_number-end.result + 1 ≡ length (refused_text k.code) = omega (arith, length-refused k.code, c.put_number-end.ensures.next) in
-    ap Written.Bytes size ∙ sym (printed_size_lem (refused_text k.code) k.out.now room)
-
-pub returns-clause-leaves : goal.returns-clause-leaves
-returns-clause-leaves c =
-    let k = c.args in
-    let p = c.put_number-end in
-    let room : length (refused_text k.code) ≤ length k.out.now = omega (arith, length-refused k.code, c.if-out-lt22.false) in
-    refused_stored k.code k.out.now p.new.out p.result p.ensures.leaves p.ensures.next ∙ sym (printed_whole (refused_text k.code) k.out.now room)
+pub returns : goal.returns
+returns c =
+    let text = refused_text c.args.code in
+    let room : length text ≤ length c.args.out.now = omega (arith, length-refused c.args.code, c.if-out-lt22.false) in
+    let line = writes_same _ _ _ text (rw c.from.ensures (refused_line c.args.code)) (writes_then _ _ _ _ _ c.number.ensures c.line_end.ensures) in
+    record {
+      says = writes-size _ _ text c.args.out.now [] line refl room;
+      leaves = writes-whole _ _ text c.args.out.now _ line refl refl (search rules) room;
+    }

@@ -1,18 +1,20 @@
--- The loop: the first 20 columns, read from 0, give what those from i on give, read from `value`; the measure is the columns left.
--- Columns that do not read, or another length, are the text of no number; else the last digit decides (`reads_last`).
-use native.Mathlib.Omega.{arith}
-use mathlib.Core.Path.{sym, ◌∙◌}
-use Rattle.bench_file.specs.NumberLaws.{reads_ill_length, reads_ill_columns, reads_last, columns_next_number, columns_next_ill, columns-end}
+-- Bytes of another length, or columns that do not read, are the text of no number; else the last digit decides (`reads_last`).
+use Rattle.std.proofs.Common.{arith, take}
+use Rattle.std.proofs.lemmas.Grind.{common_steps}
+use Rattle.bench_file.specs.Columns.{and_then}
+use Rattle.bench_file.specs.NumberLaws.{reads_ill_length, reads_ill_columns, reads_last, columns_turn, columns_none}
 use Rattle.bench_file.proofs.number.read_number.Goals as goal
 
 pub returns-then-bytes-ne21 : goal.returns-then-bytes-ne21
 returns-then-bytes-ne21 c = reads_ill_length _ c.if-bytes-ne21.true
 
-pub returns-in-Ill : goal.returns-in-Ill
-returns-in-Ill c = let bs = c.args.bytes.now in let size = c.if-bytes-ne21.false in reads_ill_columns bs (c.loop-i.invariant.1 ∙ columns_next_ill bs c.loop-i.value c.loop-i.i size c.loop-i-test.true (sym c.with_column.ensures ∙ c.in-Ill.is))
+pub returns-in_err-value : goal.returns-in_err-value
+unfolding and_then
+returns-in_err-value c = let e = columns_turn (take 20 c.args.bytes.now) c.loop-byte.value c.loop-byte.byte-index c.loop-byte-test.true in grind (arith, common_steps, reads_ill_columns)
 
-pub loop-i-preserved : goal.loop-i-preserved
-loop-i-preserved c = let bs = c.args.bytes.now in let size = c.if-bytes-ne21.false in let more = c.loop-i-test.true in (omega arith, c.loop-i.invariant.1 ∙ columns_next_number bs c.loop-i.value c.loop-i.i _ size more (sym c.with_column.ensures ∙ c.in-Number.is))
+pub loop-byte-preserved : goal.loop-byte-preserved
+unfolding and_then
+loop-byte-preserved c = let e = columns_turn (take 20 c.args.bytes.now) c.loop-byte.value c.loop-byte.byte-index c.loop-byte-test.true in grind (arith, common_steps)
 
 pub returns : goal.returns
-returns c = let bs = c.args.bytes.now in let size = c.if-bytes-ne21.false in rw c.with_digit.ensures (reads_last bs c.loop-i.value size (c.loop-i.invariant.1 ∙ columns-end bs c.loop-i.value c.loop-i.i size c.loop-i-test.false))
+returns c = let e = columns_none (take 20 c.args.bytes.now) c.loop-byte.value c.loop-byte.byte-index c.loop-byte-test.false in grind (arith, common_steps, reads_last)

@@ -1,21 +1,18 @@
--- Each ill return contradicts what one digit more needs, a byte from 48 to 57 and a number below 2^64 (`no_digit`); past the tests all of it holds.
-use borrow.Author.Rules.{rules}
-use mathlib.Core.Path.{sym}
-use native.Mathlib.Omega.{arith}
-use Rattle.bench_file.specs.ColumnLaws.{no_digit, with_digit_of}
+-- A byte is a digit from 48 to 57, and both checked operations give the number exactly where it is below 2^64.
+use Rattle.bench_file.specs.Columns.{with_last_digit}
+use Rattle.std.proofs.Common.{arith}
+use Rattle.std.proofs.lemmas.Grind.{common_steps}
+use Rattle.std.proofs.lemmas.Bool.Decides.{nat_tests}
 use Rattle.bench_file.proofs.number.with_digit.Goals as goal
 
-pub returns-then-byte-lt48 : goal.returns-then-byte-lt48
-returns-then-byte-lt48 c = sym (no_digit _ _ (λ n d. omega arith))
+pub returns-then-not-is_ascii_digit : goal.returns-then-not-is_ascii_digit
+unfolding with_last_digit
+returns-then-not-is_ascii_digit c = grind (arith, common_steps, nat_tests)
 
-pub returns-then-byte-gt57 : goal.returns-then-byte-gt57
-returns-then-byte-gt57 c = sym (no_digit _ _ (λ n d. omega arith))
-
-pub returns-then-value-gt1844674407370955161 : goal.returns-then-value-gt1844674407370955161
-returns-then-value-gt1844674407370955161 c = sym (no_digit _ _ (λ n d. omega arith))
-
-pub returns-then-tens-digit : goal.returns-then-tens-digit
-returns-then-tens-digit c = sym (no_digit _ _ (λ n d. omega arith))
+pub returns-in_err-checked_mul : goal.returns-in_err-checked_mul
+unfolding with_last_digit
+returns-in_err-checked_mul c = grind (arith, common_steps, nat_tests)
 
 pub returns : goal.returns
-returns c = sym (with_digit_of _ _ _ (record { low = omega arith; high = omega arith; value = search rules; small = omega arith }))
+unfolding with_last_digit
+returns c = grind (arith, common_steps, nat_tests)

@@ -1,12 +1,8 @@
 -- The loop keeps: the entries before i are filled.
-use Prim.Native.Nat.{◌*◌, ◌-◌}
-use lib.ListN.{length}
+use Prim.Native.Nat.{◌*◌}
 use Rattle.theory.specs.Tables.{Filled}
 use Rattle.byte_calls.specs.Bytes.{number_at}
 use Rattle.byte_calls.proofs.codec.decode.Given as goal
 
 abbrev pub invariant-loop-i : goal.invariant-loop-i
 invariant-loop-i l = Filled (λ n. number_at l.bytes (n * 8) 8) l.initial.words l.words l.i
-
-abbrev pub decreases-loop-i : goal.decreases-loop-i
-decreases-loop-i l = length l.words - l.i

@@ -1,6 +1,5 @@
 -- The loop keeps: the bytes of the entries before i are written.
-use Prim.Native.Nat.{◌*◌, ◌-◌, ◌/◌, ◌%◌}
-use lib.ListN.{length}
+use Prim.Native.Nat.{◌*◌, ◌/◌, ◌%◌}
 use Rattle.meaning.specs.Tables.{at}
 use Rattle.theory.specs.Tables.{Filled}
 use Rattle.byte_calls.specs.Bytes.{byte_of}
@@ -8,6 +7,3 @@ use Rattle.byte_calls.proofs.codec.encode.Given as goal
 
 abbrev pub invariant-loop-i : goal.invariant-loop-i
 invariant-loop-i l = Filled (λ n. byte_of (at l.words (n / 8)) (n % 8)) l.initial.bytes l.bytes (l.i * 8)
-
-abbrev pub decreases-loop-i : goal.decreases-loop-i
-decreases-loop-i l = length l.words - l.i

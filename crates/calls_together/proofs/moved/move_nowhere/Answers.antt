@@ -1,13 +1,13 @@
 -- The move leaves the moved form, which is the reduced box.
 use lib.ListN.{length-replicate}
-use Rattle.meaning.specs.Settings.{cube}
+use Rattle.settings.specs.Forms.{degrees_of}
 use Rattle.calls_together.proofs.MovedForms.{still_follows}
 use Rattle.calls_together.proofs.moved.move_nowhere.Goals as goal
 
 pub returns : goal.returns
 returns c =
     let k = c.args in
-    let e = c.move_datum-moved.ensures in
-    let f = c.reduce-reduced.ensures in
-    still_follows k.total k.width k.support.now (cube k.support.now k.degree) k.coeffs.now k.offsets.now k.out.now
-    k.copy.now e.says e.leaves f.says f.leaves (length-replicate _ _)
+    let s = k.settings.now in
+    let e = c.move_datum-first.ensures in
+    let f = c.reduce-second.ensures in
+    still_follows s.total s.bitwidth s.support.now (degrees_of s) k.coeffs.now k.offsets.now k.out.now k.copy.now e.says e.leaves f.says f.leaves (length-replicate _ _)

@@ -13,12 +13,12 @@ pub returns : goal.returns
 unfolding fit_room_lem
 returns c =
     let k = c.args in
+    let s = k.settings.now in
     let f : Fit =
-    fit_of k.total k.width k.support.now k.max_degree k.grid_degree k.weights.now k.targets.now
-    k.matrix.now k.right.now k.out.now in
+    fit_of s.total s.bitwidth s.support.now s.max_degree s.grid_degree k.weights.now k.targets.now k.matrix.now k.right.now k.out.now in
     -- the room does not look at the tables
-    let room : fit_room_said c.fit_room-asked.result ≡ fit_room_lem f = c.fit_room-asked.ensures.says in
+    let room : fit_room_said c.fit_room-room.result ≡ fit_room_lem f = c.fit_room-room.ensures.says in
     subst
     (λ (x : FitRoom). FitKeeps x (cells f.degrees) (length f.weights) (length f.targets) (length f.matrix) (length f.right) (length f.out)
-    (said c.recover_weighted_poly-made.result).number)
-    (sym room) (reply_keeps f c.recover_weighted_poly-made.ensures.calls.0)
+    (said c.recover_weighted_poly-call.result).number)
+    (sym room) (reply_keeps f c.recover_weighted_poly-call.ensures.calls.0)

@@ -1,5 +1,6 @@
 -- The loop: `low` is stride * (n + 1) once n passes are done, and each turn makes two; at the end of the block these are d
 -- or more, which is all. It stops early where the last pass left only zeros.
+use Rattle.std.proofs.Common.{◌≡◌, ◌+◌, ◌-◌, arith}
 use Rattle.lines.proofs.Passes.{passes-start, passes_pair, passes_stop, passes_done}
 use Rattle.lines.proofs.differences.difference_long.Goals as goal
 
@@ -8,13 +9,25 @@ loop-low-init c = passes-start _ _ _
 
 pub returns-then-nothing_left : goal.returns-then-nothing_left
 returns-then-nothing_left c =
+    let s = c.args.stride in
+    let low = c.loop-low.low in
     let p = c.requires in
-    passes_stop _ _ _ c.difference_pair.new.part _ ((let p = c.requires in passes_pair _ _ _ c.loop-low.part c.loop-low.low c.loop-low.invariant p.0 p.1 _ c.difference_pair.ensures)) p.0 p.1 (c.nothing_left.ensures c.if-nothing_left.true)
+    let from : low + (s + s) - s ≡ low + s = omega arith in
+    passes_stop _ _ _ c.difference_pair.new.part _ (passes_pair _ _ _ c.loop-low.part low c.loop-low.invariant p.0 p.1 _ c.difference_pair.ensures) p.0 p.1
+    (rw from (c.nothing_left.ensures c.if-nothing_left.true))
 
 pub loop-low-preserved : goal.loop-low-preserved
-loop-low-preserved c = (let p = c.requires in passes_pair _ _ _ c.loop-low.part c.loop-low.low c.loop-low.invariant p.0 p.1 _ c.difference_pair.ensures)
+loop-low-preserved c = let p = c.requires in passes_pair _ _ _ c.loop-low.part c.loop-low.low c.loop-low.invariant p.0 p.1 _ c.difference_pair.ensures
 
 pub returns : goal.returns
 returns c =
     let p = c.requires in
-    passes_done _ _ _ c.loop-low.part c.loop-low.low c.loop-low.invariant p.0 p.1 c.loop-low-test.false
+    passes_done _ _ _ c.loop-low.part c.loop-low.low c.loop-low.invariant p.0 p.1 (omega (arith, c.loop-low-test.false))
+
+pub returns-else-nothing_left : goal.returns-else-nothing_left
+returns-else-nothing_left c =
+    let s = c.args.stride in
+    let low = c.loop-low.low in
+    let p = c.requires in
+    passes_done _ _ _ c.difference_pair.new.part (low + (s + s))
+    (passes_pair _ _ _ c.loop-low.part low c.loop-low.invariant p.0 p.1 _ c.difference_pair.ensures) p.0 p.1 (omega arith)

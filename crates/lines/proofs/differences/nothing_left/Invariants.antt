@@ -1,5 +1,5 @@
--- The loop: the numbers from `from` to place i, which is not below it, are 0; the measure is what is left.
-use Rattle.std.proofs.Common.{◌≡◌, ℕ, ◌-◌, ◌<◌, ◌≤◌, List, length}
+-- The loop: the numbers from `from` to place i, which is not below it, are 0.
+use Rattle.std.proofs.Common.{◌≡◌, ℕ, ◌<◌, ◌≤◌, List}
 use Rattle.meaning.specs.Tables.{at}
 use Rattle.lines.proofs.differences.nothing_left.Given as goal
 
@@ -9,6 +9,3 @@ Zeros t from to = (i : ℕ) → from ≤ i → i < to → at t i ≡ 0
 
 abbrev pub invariant-loop-i : goal.invariant-loop-i
 invariant-loop-i l = (l.from ≤ l.i) × Zeros l.part l.from l.i
-
-abbrev pub decreases-loop-i : goal.decreases-loop-i
-decreases-loop-i l = length l.part - l.i

@@ -1,6 +1,6 @@
 -- The loop: the row is filled before column j, `factor` is the factor of column j, and `left` stands left of the entry above. A turn is two steps, the end
 -- one or none.
-use Rattle.std.proofs.Common.{◌≡◌, ℕ, ◌+◌, set, sym, refl, ap, ◌∙◌, subst, ne_of_lt, arith, length-set, get_or-set_other}
+use Rattle.std.proofs.Common.{◌≡◌, ℕ, ◌+◌, ◌%◌, ◌^◌, set, sym, refl, ap, ◌∙◌, subst, ne_of_lt, arith, length-set, get_or-set_other}
 use Rattle.meaning.specs.Tables.{at}
 use Rattle.math_utils.proofs.Entries.{Columns, columns-start, column_step, columns_done}
 use Rattle.math_utils.proofs.stirling.fill_row.Goals as goal
@@ -19,17 +19,18 @@ loop-j-preserved c =
     let h = c.loop-j-test.true in
     let t = set n.table (a.from + a.side + n.j) c.next_entry.result in
     let u = c.next_entry-in-loop-j in
+    let grown = ((n.factor + a.step) % 2 ^ 64 + a.step) % 2 ^ 64 in
     let step = column_step a.bitwidth a.side a.from a.i a.first a.step c.requires.bitwidth_bound p.0 p.1 p.3 a.table.now in
     let once = step n.table n.factor n.left n.j n.invariant.3 _ _ _ n.invariant.0 (omega (arith, h)) (omega arith) refl
-    c.next_entry.ensures c.wrapping_add_u64-second.ensures.value in
+    c.next_entry.ensures refl in
     let read : at n.table (a.from + n.j + 1) ≡ at t (a.from + (n.j + 1)) =
     ap (at n.table) (omega arith) ∙ sym (get_or-set_other n.table (a.from + a.side + n.j) (a.from + (n.j + 1)) _ 0 (ne_of_lt (omega arith))) in
-    let twice = step t _ _ (n.j + 1) once (at n.table (a.from + n.j + 1)) u.result c.wrapping_add_u64-factor.result
-    (omega arith) (omega (arith, h)) (simp length-set (omega (arith, n.invariant.2))) read u.ensures c.wrapping_add_u64-factor.ensures.value in (
+    let twice = step t _ _ (n.j + 1) once (at n.table (a.from + n.j + 1)) u.result grown
+    (omega arith) (omega (arith, h)) (simp length-set (omega (arith, n.invariant.2))) read u.ensures refl in (
       omega arith,
       omega (arith, h),
       simp length-set n.invariant.2,
-      subst (λ (q : ℕ). Columns a.bitwidth a.side a.from a.i a.first a.step a.table.now (set t q u.result) c.wrapping_add_u64-factor.result (at n.table (a.from + n.j + 1)) (n.j + 2)) (omega arith)
+      subst (λ (q : ℕ). Columns a.bitwidth a.side a.from a.i a.first a.step a.table.now (set t q u.result) grown (at n.table (a.from + n.j + 1)) (n.j + 2)) (omega arith)
           (subst (Columns a.bitwidth a.side a.from a.i a.first a.step a.table.now _ _ _) (omega arith) twice),
     )
 

@@ -1,14 +1,8 @@
--- Lines of degree 3 go by their fours of neighbours, and a table of one line is a block of stride 1.
+-- A table of one line is a block of stride 1.
 use Rattle.std.proofs.Common.{◌≡◌, suc, ◌^◌, length, ◌∙◌, add-one}
 use Rattle.theory.specs.MovedLines.{moved_line}
 use Rattle.moves.proofs.FirstLines.{single_line}
 use Rattle.moves.proofs.first.move_first.Goals as goal
-
-pub moved_neighbours-requires : goal.moved_neighbours-requires
-moved_neighbours-requires c = rw c.if-degree-eq3.true at c.requires.2
-
-pub returns-then-degree-eq3 : goal.returns-then-degree-eq3
-returns-then-degree-eq3 c = rw c.if-degree-eq3.true c.moved_neighbours.ensures
 
 pub returns-then-table-degree : goal.returns-then-table-degree
 returns-then-table-degree c =

@@ -3,7 +3,8 @@
 use Rattle.std.proofs.Common.{◌≡◌, suc, ◌*◌, ◌<◌, length, refl, le_refl, zero-lt-suc, arith, length-set, pow_pos}
 use Rattle.lines.specs.NodeOrders.{open_start, open_done}
 use Rattle.moves.specs.NodeRows.{rows_start, rows_step, rows_open, added_start, added_near}
-use Rattle.moves.proofs.MovePasses.{sum_with_product, opening_at}
+use Rattle.lines.specs.DivisionPasses.{sum_with_product}
+use Rattle.moves.proofs.MovePasses.{opening_at}
 use Rattle.moves.proofs.first.move_line.Goals as goal
 
 pub loop-i-init : goal.loop-i-init
@@ -19,9 +20,9 @@ loop-i-preserved c =
     let h : c.loop-i.i < 1 * c.args.degree = omega arith in
     let added =
     added_near (added_start _ 1 c.loop-i.i c.loop-i.factor 0 c.loop-i.part) (le_refl _) (omega arith) _
-    (sum_with_product _ c.loop-i.factor _ _ c.wrapping_mul.ensures c.wrapping_add_u64.ensures.value) in (
+    (sum_with_product _ c.loop-i.factor _ _ c.wrapping_mul.ensures refl) in (
       simp length-set c.loop-i.invariant.0,
-      rows_step (pow_pos 64) c.loop-i.invariant.1 h c.wrapping_add_u64-factor.ensures.value,
+      rows_step (pow_pos 64) c.loop-i.invariant.1 h refl,
       λ f r. rows_open (pow_pos 64) c.loop-i.invariant.1 (zero-lt-suc 0) ((let whole : length c.args.part.now ≡ 1 * suc c.args.degree = omega (arith, c.requires.1) in whole)) h (c.loop-i.invariant.2 f r) added,
     )
 

@@ -1,6 +1,5 @@
--- The loop: the numbers before i have their pass, the others not yet, for whatever coefficients f; the factor is that of the next number. The measure is
--- the numbers left.
-use Rattle.std.proofs.Common.{◌≡◌, ℕ, suc, ◌-◌, ◌^◌, length}
+-- The loop: the numbers before i have their pass, the others not yet, for whatever coefficients f; the factor is that of the next number.
+use Rattle.std.proofs.Common.{◌≡◌, ℕ, suc, ◌^◌, length}
 use Rattle.theory.specs.MovedLines.{shift}
 use Rattle.lines.specs.NodeOrders.{Opened, Opening}
 use Rattle.moves.specs.NodeRows.{Rows}
@@ -12,6 +11,3 @@ invariant-loop-i l =
     × Rows (2 ^ 64) l.offset 1 l.degree l.done l.i l.factor
     × ((f : ℕ → ℕ) → Opened (2 ^ 64) (shift (2 ^ 64) l.offset) 1 l.degree f (length l.initial.part) (suc l.done) l.initial.part
     → Opening (2 ^ 64) (shift (2 ^ 64) l.offset) 1 l.degree f (length l.initial.part) l.done l.i l.part)
-
-abbrev pub decreases-loop-i : goal.decreases-loop-i
-decreases-loop-i l = l.end - l.i

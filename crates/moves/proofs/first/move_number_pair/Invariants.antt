@@ -1,6 +1,6 @@
 -- The loop: over the lines as their number `done` has been left, the numbers before `place` of each line have their two passes, the others not yet, for whatever
--- coefficients f; the factors are those of the next number. The measure is the numbers left. It ends at the last number, which has one number above it.
-use Rattle.std.proofs.Common.{ℕ, suc, ◌-◌, ◌^◌, ◌<◌, List}
+-- coefficients f; the factors are those of the next number. It ends at the last number, which has one number above it.
+use Rattle.std.proofs.Common.{ℕ, suc, ◌^◌, ◌<◌, List}
 use Rattle.theory.specs.MovedLines.{shift}
 use Rattle.moves.specs.NodePairs.{Pairing, Pairs}
 use Rattle.moves.specs.NodeLines.{EachLine}
@@ -13,6 +13,3 @@ Come offset degree done i j u v =
 
 abbrev pub invariant-loop-place : goal.invariant-loop-place
 invariant-loop-place l = (l.place < l.degree) × Pairs (2 ^ 64) l.offset 1 l.degree l.done l.place l.near l.far × EachLine l.degree (Come l.offset l.degree l.done l.initial.place l.place) l.initial.part l.part
-
-abbrev pub decreases-loop-place : goal.decreases-loop-place
-decreases-loop-place l = l.degree - l.place

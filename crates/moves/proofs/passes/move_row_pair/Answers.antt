@@ -8,7 +8,7 @@ pub loop-from-init : goal.loop-from-init
 loop-from-init c = (
   c.add_rows.ensures.same ∙ c.requires.2,
   pairs_start c.args.offset (pow_pos 64) c.requires.1 refl c.wrapping_sub-first.ensures
-      c.wrapping_add_u64.ensures.value c.wrapping_add_u64-near.ensures.value c.wrapping_mul-far.ensures,
+      refl refl c.wrapping_mul-far.ensures,
   λ f r. r,
 )
 
@@ -19,7 +19,7 @@ pub loop-from-preserved : goal.loop-from-preserved
 loop-from-preserved c =
     let h : c.loop-from.from + c.args.stride < c.args.stride * c.args.degree = (let left : c.loop-from.from + c.args.stride < c.args.stride * c.args.degree = omega (arith, c.loop-from-test.true, c.requires.2, (let fits : c.args.stride * c.args.done + c.args.stride + c.args.stride + c.args.stride ≤ length c.args.part.now = omega (arith, c.requires.2, mul-le-mul_left c.args.stride c.requires.1) in fits)) in left) in (
       c.add_rows-in-loop-from.ensures.same ∙ c.loop-from.invariant.0,
-      pairs_step (pow_pos 64) c.loop-from.invariant.1 h c.wrapping_add_u64-near-in-loop-from.ensures.value c.wrapping_add_u64-far.ensures.value,
+      pairs_step (pow_pos 64) c.loop-from.invariant.1 h refl refl,
       λ f r. pairs_next (pow_pos 64) c.loop-from.invariant.1 c.requires.0 refl h (c.loop-from.invariant.2 f r) c.add_rows-in-loop-from.ensures,
     )
 

@@ -1,65 +1,56 @@
 -- A refusal of `check_tables` is passed on, with `out` as it was. Where it accepts there are at most twenty variables, and `recover_from_grid` decides.
-use Rattle.std.proofs.Common.{◌≡◌, ℕ, true, cond, List, sym, ap, ◌∙◌, arith, length-take-le}
+use Rattle.std.proofs.Common.{◌≡◌, ℕ, true, cond, List, sym, ap, ◌∙◌, arith}
 use Rattle.meaning.specs.Tables.{tabulate}
 use Rattle.meaning.specs.Boxes.{cells}
 use Rattle.meaning.specs.Recovery.{accepts, answer}
-use Rattle.meaning.specs.Settings.{cube, first}
-use Rattle.meaning.specs.Calls.{in_out_number, recovery_number, recovery_left, left}
-use Rattle.settings.specs.Causes.{take-cube, ready_passes, ready_high}
+use Rattle.meaning.specs.Settings.{first}
+use Rattle.meaning.specs.Calls.{recovery_number, recovery_left, left}
 use Rattle.theory.specs.AcceptedCalls.{Ready, ready}
 use Rattle.theory.specs.Ranges.{width_pos}
-use Rattle.answers.specs.Said.{said_number}
-use Rattle.answers.specs.Laws.{first_code, left-code}
+use Rattle.answers.specs.Laws.{handed_on, first_code, left-code}
+use Rattle.settings.specs.Causes.{ready_passes, ready_high}
+use Rattle.settings.specs.Forms.{degrees_of}
 use Rattle.multivar_poly_recovery.proofs.grid.recover_checked.Goals as goal
+use Rattle.multivar_poly_recovery.proofs.grid.recover_checked.Goals.{After-as_slice}
 
 -- what recovery leaves where settings and lengths pass
-abbrev recovered_box : ℕ → List ℕ → List ℕ → List ℕ
-recovered_box w ds v = cond (accepts w ds v) (answer w ds v) (tabulate (cells ds) (λ i. 0))
+abbrev recovered : ℕ → List ℕ → List ℕ → List ℕ
+recovered w v ds = cond (accepts w ds v) (answer w ds v) (tabulate (cells ds) (λ i. 0))
 
-pub slice_bounds-degrees-end : goal.slice_bounds-degrees-end
-slice_bounds-degrees-end c = (ready_passes ((let ok : let k = c.args in Ready true k.total k.bitwidth k.support.now ((cube c.args.support.now c.args.max_degree)) k.values.now k.out.now = ready _ _ _ _ _ _ _ ((let accepted : let k = c.args in in_out_number true k.total k.bitwidth k.support.now ((cube c.args.support.now c.args.max_degree)) k.values.now k.out.now ≡ 0 = sym c.check_tables.ensures ∙ ap said_number c.in-Accepted.is in accepted)) in ok))).short
+-- they pass, and the degrees are those of the settings
+passed : (c : After-as_slice) → let s = c.args.settings.now in Ready true s.total s.bitwidth s.support.now (degrees_of s) c.args.values.now c.args.out.now
+passed c = ready _ _ _ _ _ _ _ (sym c.in_ok-check_tables.ensures)
 
-pub slice_bounds-recover_from_grid-end : goal.slice_bounds-recover_from_grid-end
-slice_bounds-recover_from_grid-end c = sym (length-take-le _ _ (ready_passes ((let ok : let k = c.args in Ready true k.total k.bitwidth k.support.now ((cube c.args.support.now c.args.max_degree)) k.values.now k.out.now = ready _ _ _ _ _ _ _ ((let accepted : let k = c.args in in_out_number true k.total k.bitwidth k.support.now ((cube c.args.support.now c.args.max_degree)) k.values.now k.out.now ≡ 0 = sym c.check_tables.ensures ∙ ap said_number c.in-Accepted.is in accepted)) in ok))).short)
+degrees : (c : After-as_slice) → c.as_slice.result.now ≡ degrees_of c.args.settings.now
+degrees c = c.as_slice.ensures ∙ c.degrees-degrees.ensures.all (ready_passes (passed c)).short
 
 pub recover_from_grid-requires : goal.recover_from_grid-requires
 recover_from_grid-requires c =
-    let r = (let ok : let k = c.args in Ready true k.total k.bitwidth k.support.now ((cube c.args.support.now c.args.max_degree)) k.values.now k.out.now = ready _ _ _ _ _ _ _ ((let accepted : let k = c.args in in_out_number true k.total k.bitwidth k.support.now ((cube c.args.support.now c.args.max_degree)) k.values.now k.out.now ≡ 0 = sym c.check_tables.ensures ∙ ap said_number c.in-Accepted.is in accepted)) in ok) in
-    let k = c.args in
-    let e = sym (take-cube k.support.now k.max_degree (ready_passes r).short) in
-    let low = width_pos k.bitwidth (ready_passes r).width in
-    (r.given_length ∙ ap cells e, r.out_length ∙ ap cells e, omega (arith, low), ready_high r)
+    let k = (goal.at.recover_from_grid-requires c).After-as_slice in
+    let r = passed k in
+    rw (degrees k) (r.given_length, r.out_length, omega (arith, width_pos c.args.settings.now.bitwidth (ready_passes r).width), ready_high r)
 
-pub returns-in-Refused-clause-says : goal.returns-in-Refused-clause-says
+pub returns-in_err-check_tables : goal.returns-in_err-check_tables
 unfolding recovery_number recovery_left
-returns-in-Refused-clause-says c =
-    let n = sym c.check_tables.ensures ∙ ap said_number c.in-Refused.is in
-    sym (first_code c.in-Refused.refusal _ n)
+returns-in_err-check_tables c =
+    let n = sym c.in_err-check_tables.ensures in
+    let r = c.in_err-check_tables.field-0.0 in
+    rw (handed_on _ c.from_residual.ensures.1) (record { says = sym (first_code r _ n); leaves = sym (left-code r _ _ n) })
 
-pub returns-in-Refused-clause-leaves : goal.returns-in-Refused-clause-leaves
-unfolding recovery_number recovery_left
-returns-in-Refused-clause-leaves c =
-    let n = sym c.check_tables.ensures ∙ ap said_number c.in-Refused.is in
-    sym (left-code c.in-Refused.refusal _ _ n)
+pub returns-clause-says : goal.returns-clause-says
+unfolding recovery_number
+returns-clause-says c =
+    let s = c.args.settings.now in
+    let v = c.args.values.now in
+    c.recover_from_grid.ensures.says
+    ∙ ap (λ (ds : List ℕ). cond (accepts s.bitwidth ds v) 0 6) (degrees (goal.at.returns-clause-says c).After-as_slice)
+    ∙ ap (λ (i : ℕ). first i (cond (accepts s.bitwidth (degrees_of s) v) 0 6)) c.in_ok-check_tables.ensures
 
-pub returns-in-Accepted-clause-says : goal.returns-in-Accepted-clause-says
-unfolding recovery_number recovery_left
-returns-in-Accepted-clause-says c =
-    let k = c.args in
-    let n = (let accepted : let k = c.args in in_out_number true k.total k.bitwidth k.support.now ((cube c.args.support.now c.args.max_degree)) k.values.now k.out.now ≡ 0 = sym c.check_tables.ensures ∙ ap said_number c.in-Accepted.is in accepted) in
-    let e = take-cube k.support.now k.max_degree (ready_passes ((let ok : let k = c.args in Ready true k.total k.bitwidth k.support.now ((cube c.args.support.now c.args.max_degree)) k.values.now k.out.now = ready _ _ _ _ _ _ _ ((let accepted : let k = c.args in in_out_number true k.total k.bitwidth k.support.now ((cube c.args.support.now c.args.max_degree)) k.values.now k.out.now ≡ 0 = sym c.check_tables.ensures ∙ ap said_number c.in-Accepted.is in accepted)) in ok))).short in
-    let w = k.bitwidth in
-    let v = k.values.now in c.recover_from_grid.ensures.says
-    ∙ ap (λ (ds : List ℕ). cond (accepts w ds v) 0 6) e
-    ∙ ap (λ (i : ℕ). first i (cond (accepts w ((cube c.args.support.now c.args.max_degree)) v) 0 6)) (sym n)
-
-pub returns-in-Accepted-clause-leaves : goal.returns-in-Accepted-clause-leaves
-unfolding recovery_number recovery_left
-returns-in-Accepted-clause-leaves c =
-    let k = c.args in
-    let n = (let accepted : let k = c.args in in_out_number true k.total k.bitwidth k.support.now ((cube c.args.support.now c.args.max_degree)) k.values.now k.out.now ≡ 0 = sym c.check_tables.ensures ∙ ap said_number c.in-Accepted.is in accepted) in
-    let e = take-cube k.support.now k.max_degree (ready_passes ((let ok : let k = c.args in Ready true k.total k.bitwidth k.support.now ((cube c.args.support.now c.args.max_degree)) k.values.now k.out.now = ready _ _ _ _ _ _ _ ((let accepted : let k = c.args in in_out_number true k.total k.bitwidth k.support.now ((cube c.args.support.now c.args.max_degree)) k.values.now k.out.now ≡ 0 = sym c.check_tables.ensures ∙ ap said_number c.in-Accepted.is in accepted)) in ok))).short in
-    let w = k.bitwidth in
-    let v = k.values.now in c.recover_from_grid.ensures.leaves
-    ∙ ap (λ (ds : List ℕ). cond (accepts w ds v) (answer w ds v) (tabulate (cells ds) (λ i. 0))) e
-    ∙ ap (λ (i : ℕ). left i (recovered_box w ((cube c.args.support.now c.args.max_degree)) v) k.out.now) (sym n)
+pub returns-clause-leaves : goal.returns-clause-leaves
+unfolding recovery_left
+returns-clause-leaves c =
+    let s = c.args.settings.now in
+    let v = c.args.values.now in
+    c.recover_from_grid.ensures.leaves
+    ∙ ap (recovered s.bitwidth v) (degrees (goal.at.returns-clause-leaves c).After-as_slice)
+    ∙ ap (λ (i : ℕ). left i (recovered s.bitwidth v (degrees_of s)) c.args.out.now) c.in_ok-check_tables.ensures

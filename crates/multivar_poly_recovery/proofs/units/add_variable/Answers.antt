@@ -10,4 +10,4 @@ loop-e-init c = adding_start unit _ _ _ unit_zeroth
 pub loop-e-preserved : goal.loop-e-preserved
 loop-e-preserved c =
     let p = c.requires in
-    units_step _ _ _ c.loop-e.units c.loop-e.from c.loop-e.e c.loop-e.invariant (omega (arith, c.loop-e-test.true)) c.args.inverses.now p.2 p.1 _ c.next_cells.auto.units c.next_cells.ensures
+    units_step _ _ _ c.loop-e.units c.loop-e.from c.loop-e.e c.loop-e.invariant (omega (arith, c.loop-e-test.true)) c.args.inverses.now.table.now c.args.inverses.now.serve p.1 _ c.next_cells.auto.units c.next_cells.ensures

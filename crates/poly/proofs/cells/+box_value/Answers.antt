@@ -1,6 +1,6 @@
 use Rattle.std.proofs.Common.{refl, arith}
 use Rattle.theory.specs.LastVariable.{length-others}
-use Rattle.box_rows.specs.Walks.{walk_start, walk_fits, walk_less, walk_next}
+use Rattle.box_rows.specs.Walks.{walk_start, walk_fits, walk_left, walk_over, walk_next}
 use Rattle.poly.proofs.BoxValues.{line-fits, line-value, last_end, others-fit, shaped_others, exponent_below}
 use Rattle.poly.proofs.BoxValues.{summed_start, summed_next, summed_stop, summed_done}
 use Rattle.poly.proofs.cells.+box_value.Goals as goal
@@ -12,8 +12,8 @@ pub returns-then-degrees-eq1 : goal.returns-then-degrees-eq1
 returns-then-degrees-eq1 t c =
     line-value c.args.size c.args.degrees.now c.args.coeffs.now c.args.products.now c.if-degrees-eq1.true c.requires.shaped c.line_value.ensures
 
-pub loop-from-init : goal.loop-from-init
-loop-from-init t c =
+pub loop-e-init : goal.loop-e-init
+loop-e-init t c =
     let p = c.requires.shaped in
     (walk_start _ _ p.some p.whole, summed_start)
 
@@ -21,32 +21,29 @@ loop-from-init t c =
 pub bounds-products-row : goal.bounds-products-row
 bounds-products-row t c =
     let p = c.requires.shaped in
-    omega (arith, last_end p c.requires.size_in_bounds, exponent_below p c.loop-from.invariant.0 c.loop-from-test.true)
+    omega (arith, last_end p c.requires.size_in_bounds, exponent_below p c.loop-e.invariant.0 (walk_left c.loop-e.invariant.0 (omega (arith, c.loop-e-test.true))))
 
 pub returns-then-falling-eq0 : goal.returns-then-falling-eq0
 returns-then-falling-eq0 t c =
-    summed_stop c.requires.shaped c.loop-from.invariant.0 c.loop-from.invariant.1 c.loop-from-test.true c.if-falling-eq0.true
+    summed_stop c.requires.shaped c.loop-e.invariant.0 c.loop-e.invariant.1 (walk_left c.loop-e.invariant.0 (omega (arith, c.loop-e-test.true))) c.if-falling-eq0.true
 
 pub slice_bounds-box_value-end : goal.slice_bounds-box_value-end
-slice_bounds-box_value-end t c = walk_fits c.loop-from.invariant.0 c.loop-from-test.true
+slice_bounds-box_value-end t c = walk_fits c.loop-e.invariant.0 (walk_left c.loop-e.invariant.0 (omega (arith, c.loop-e-test.true)))
 
 pub box_value-inner-requires : goal.box_value-inner-requires
 box_value-inner-requires t c =
     let p = c.requires.shaped in (
       omega (arith, length-others c.args.degrees.now p.some, c.decreases, p.some),
-      (shaped_others p c.loop-from.invariant.0 c.loop-from-test.true refl c.if-degrees-eq1.false, others-fit p c.requires.size_in_bounds),
+      (shaped_others p c.loop-e.invariant.0 (walk_left c.loop-e.invariant.0 (omega (arith, c.loop-e-test.true))) refl c.if-degrees-eq1.false, others-fit p c.requires.size_in_bounds),
     )
 
-pub loop-from-smaller : goal.loop-from-smaller
-loop-from-smaller t c = walk_less c.loop-from.invariant.0 c.loop-from-test.true
-
-pub loop-from-preserved : goal.loop-from-preserved
-loop-from-preserved t c =
-    let i = c.loop-from.invariant in (
-      walk_next i.0 c.loop-from-test.true,
-      summed_next c.requires.shaped i.0 i.1 c.loop-from-test.true _ c.box_value-inner.ensures c.wrapping_mul.ensures
-          c.wrapping_add_u64-sum.ensures.value,
+pub loop-e-preserved : goal.loop-e-preserved
+loop-e-preserved t c =
+    let i = c.loop-e.invariant in (
+      walk_next i.0 (walk_left i.0 (omega (arith, c.loop-e-test.true))),
+      summed_next c.requires.shaped i.0 i.1 (walk_left i.0 (omega (arith, c.loop-e-test.true))) _ c.box_value-inner.ensures c.wrapping_mul-sum.ensures
+          refl,
     )
 
 pub returns : goal.returns
-returns t c = summed_done c.requires.shaped c.loop-from.invariant.0 c.loop-from.invariant.1 c.loop-from-test.false
+returns t c = summed_done c.requires.shaped c.loop-e.invariant.0 c.loop-e.invariant.1 (walk_over c.loop-e.invariant.0 (omega (arith, c.loop-e-test.false)))

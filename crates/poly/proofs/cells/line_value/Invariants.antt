@@ -1,10 +1,6 @@
 -- The loop has the sum of the cells before it.
-use Rattle.std.proofs.Common.{◌-◌, length}
 use Rattle.poly.proofs.BoxValues.{Added}
 use Rattle.poly.proofs.cells.line_value.Given as goal
 
 abbrev pub invariant-loop-i : goal.invariant-loop-i
 invariant-loop-i l = Added l.coeffs l.products l.sum l.i
-
-abbrev pub decreases-loop-i : goal.decreases-loop-i
-decreases-loop-i l = length l.coeffs - l.i

@@ -43,7 +43,6 @@ pub loop-i-init : goal.loop-i-init
 loop-i-init c = (
   last-counted c.args.degrees.now _ (length c.args.counts.now) (length c.args.next.now) c.requires.0 c.requires.3 c.count_one.ensures,
   refl,
-  omega arith,
 )
 
 pub add_variable-requires : goal.add_variable-requires
@@ -58,8 +57,7 @@ add_variable-requires c =
 
 pub loop-i-preserved : goal.loop-i-preserved
 loop-i-preserved c = (
-  taken c.args.degrees.now c.loop-i.counts (length c.args.next.now) c.loop-i.i c.loop-i.invariant.0 c.loop-i-test.true c.loop-i.invariant.2 _
+  taken c.args.degrees.now c.loop-i.counts (length c.args.next.now) c.loop-i.i c.loop-i.invariant.0 c.loop-i-test.true (omega (arith, c.loop-i.auto.i)) _
       c.add_variable.ensures,
   omega (arith, c.add_variable.auto.next, c.loop-i.invariant.1),
-  omega (arith, c.loop-i.invariant.2),
 )

@@ -10,18 +10,20 @@ use Rattle.room.proofs.RunningSums.{recent, recent-start, recent_whole, recent_n
 use Rattle.room.proofs.counts.sum_up.Goals as goal
 
 pub loop-s-init : goal.loop-s-init
-loop-s-init c = (filled_start _ _, sym (recent-start c.args.degree (at c.args.counts.now)), omega arith)
+loop-s-init c = record { written = filled_start _ _; goes_along = sym (recent-start c.args.degree (at c.args.counts.now)) }
 
 pub overflow_add-running : goal.overflow_add-running
 overflow_add-running c =
-    let sum-le : c.loop-s.running ≤ c.loop-s.s * 65536 =
-    omega (arith, c.loop-s.invariant.1, recent-le c.args.degree (at c.args.counts.now) 65536 c.requires.2 c.loop-s.s) in
-    let within : c.loop-s.s < length c.args.counts.now = omega (arith, c.loop-s.invariant.0.same, c.loop-s-test.true, c.requires.0) in
-    record { fits = omega (arith, sum-le, c.requires.2 c.loop-s.s, within, c.requires.1) }
+    let kept = c.loop-s.invariant in
+    let s = c.loop-s.s in
+    let sum-le : c.loop-s.running ≤ s * 65536 =
+    omega (arith, kept.goes_along, recent-le c.args.degree (at c.args.counts.now) 65536 c.requires.2 s) in
+    let within : s < length c.args.counts.now = omega (arith, kept.written.same, c.loop-s-test.true, c.requires.0) in
+    record { fits = omega (arith, sum-le, c.requires.2 s, within, c.requires.1) }
 
 pub overflow_sub-running : goal.overflow_sub-running
 overflow_sub-running c =
-    omega (arith, c.leaving.ensures, c.loop-s.invariant.1, leaves-le c.args.degree (at c.args.counts.now) c.loop-s.s)
+    omega (arith, c.leaving.ensures, c.loop-s.invariant.goes_along, leaves-le c.args.degree (at c.args.counts.now) c.loop-s.s)
 
 pub loop-s-preserved : goal.loop-s-preserved
 loop-s-preserved c =
@@ -29,11 +31,11 @@ loop-s-preserved c =
     let counts = c.args.counts.now in
     let s = c.loop-s.s in
     let goes_on =
-    ap₂ (λ (r l : ℕ). r + at counts s - l) c.loop-s.invariant.1 c.leaving.ensures ∙ recent_next d (at counts) s in (
-      filled_step _ _ c.loop-s.next s _ c.loop-s.invariant.0 c.loop-s-test.true (goes_on ∙ recent_whole d (at counts) s),
-      goes_on ∙ ap (recent d (at counts)) (sym (add-one s)),
-      omega (arith, c.loop-s.invariant.0.same, c.loop-s-test.true),
-    )
+    ap₂ (λ (r l : ℕ). r + at counts s - l) c.loop-s.invariant.goes_along c.leaving.ensures ∙ recent_next d (at counts) s in
+    record {
+      written = filled_step _ _ c.loop-s.next s _ c.loop-s.invariant.written (omega arith) (goes_on ∙ recent_whole d (at counts) s);
+      goes_along = goes_on ∙ ap (recent d (at counts)) (sym (add-one s));
+    }
 
 pub returns : goal.returns
-returns c = filled_done _ _ c.loop-s.next c.loop-s.s c.loop-s.invariant.0 (omega (arith, c.loop-s.invariant.0.same, c.loop-s-test.false))
+returns c = filled_done _ _ c.loop-s.next c.loop-s.s c.loop-s.invariant.written (omega (arith, c.loop-s.invariant.written.same))

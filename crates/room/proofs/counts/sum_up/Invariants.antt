@@ -1,8 +1,7 @@
 -- The loop keeps: the counts before place s are written, and the running sum is that of the counts before it.
 use mathlib.Core.Path.{◌≡◌}
 use mathlib.Core.List.{List}
-use Prim.Native.Nat.{ℕ, suc, ◌-◌, ◌≤◌, min}
-use lib.ListN.{length}
+use Prim.Native.Nat.{ℕ, suc, ◌-◌, min}
 use Rattle.meaning.specs.Tables.{at}
 use Rattle.meaning.specs.Sums.{sum}
 use Rattle.theory.specs.Tables.{Filled}
@@ -14,7 +13,8 @@ abbrev count-with : ℕ → List ℕ → ℕ → ℕ
 count-with d counts s = sum (suc (min d s)) (λ e. at counts (s - e))
 
 abbrev pub invariant-loop-s : goal.invariant-loop-s
-invariant-loop-s l = Filled (count-with l.degree l.counts) l.initial.next l.next l.s × (l.running ≡ recent l.degree (at l.counts) l.s) × (l.s ≤ length l.initial.next)
-
-abbrev pub decreases-loop-s : goal.decreases-loop-s
-decreases-loop-s l = length l.next - l.s
+invariant-loop-s l =
+    record {
+      written : Filled (count-with l.degree l.counts) l.initial.next l.next l.s;
+      goes_along : l.running ≡ recent l.degree (at l.counts) l.s;
+    }

@@ -5,17 +5,21 @@ use lib.ListN.{length}
 use Rattle.meaning.specs.Replies.{accepted}
 use Rattle.meaning.specs.Calls.{reply}
 use Rattle.meaning.specs.Fit.{fit_columns_of}
-use Rattle.answers.specs.Laws.{reply-code}
-use Rattle.room.specs.Sizes.{fit_settings, fit_room_said}
+use Rattle.answers.specs.Said.{said}
+use Rattle.answers.specs.Laws.{handed_on, reply-code}
+use Rattle.room.specs.Sizes.{fit_asked, fit_room_said}
 use Rattle.room.specs.SizeLaws.{told_turned, told_counts}
 use Rattle.room.proofs.sizes.fit_columns.Goals as goal
 
-pub returns-in-Refused : goal.returns-in-Refused
-returns-in-Refused c =
-    reply-code c.in-Refused.refusal _
-    (told_turned ((let k = c.args in fit_settings k.total k.bitwidth k.support.now k.max_degree k.grid_degree)) c.in-Refused.refusal (sym (ap fit_room_said c.in-Refused.is) ∙ c.fit_room.ensures.says))
+pub returns-in_err-fit_room : goal.returns-in_err-fit_room
+returns-in_err-fit_room c =
+    let f = fit_asked c.args.settings.now in
+    let r = c.in_err-fit_room.field-0.0 in
+    ap said (handed_on _ c.from_residual.ensures.1)
+    ∙ reply-code r _ (told_turned f r (sym (ap fit_room_said c.in_err-fit_room.was) ∙ c.fit_room.ensures.says))
 
-pub returns-in-Counts : goal.returns-in-Counts
-returns-in-Counts c =
-    let told = told_counts ((let k = c.args in fit_settings k.total k.bitwidth k.support.now k.max_degree k.grid_degree)) (sym (ap fit_room_said c.in-Counts.is) ∙ c.fit_room.ensures.says) in
-    ap accepted told.column_count ∙ sym (ap (λ (n : ℕ). reply n (length (fit_columns_of ((let k = c.args in fit_settings k.total k.bitwidth k.support.now k.max_degree k.grid_degree))))) told.passes)
+pub returns : goal.returns
+returns c =
+    let f = fit_asked c.args.settings.now in
+    let told = told_counts f (sym (ap fit_room_said c.in_ok-fit_room.was) ∙ c.fit_room.ensures.says) in
+    ap accepted told.column_count ∙ sym (ap (λ (n : ℕ). reply n (length (fit_columns_of f))) told.passes)

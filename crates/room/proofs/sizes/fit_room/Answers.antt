@@ -2,138 +2,114 @@
 use mathlib.Core.Path.{◌≡◌, sym, ap, ap₂, subst, ◌∙◌}
 use mathlib.Core.Bool.{false}
 use mathlib.Core.List.{List}
-use Prim.Native.Nat.{ℕ, ◌*◌, ◌≤◌, ◌<◌, min}
+use Prim.Native.Nat.{ℕ, ◌*◌, ◌≤◌, ◌<◌}
 use native.Mathlib.Nat.{mul-le-mul, le_trans, le_of_eq}
 use native.Mathlib.Omega.{arith}
-use lib.ListN.{length, take, replicate}
-use lib.Seq.{length-take-le}
+use lib.ListN.{length}
+use Rattle.std.proofs.Common.{Result, Ok, Err}
 use Rattle.meaning.specs.Boxes.{cells}
 use Rattle.meaning.specs.Settings.{table_limit, fits_width, cube}
 use Rattle.meaning.specs.Calls.{settings_reply}
-use Rattle.meaning.specs.Fit.{Fit, columns, fit_columns_of, fit_rows}
+use Rattle.meaning.specs.Fit.{columns, fit_columns_of, fit_rows}
 use Rattle.meaning.specs.Counts.{FitRoom, fit_room_lem}
 use Rattle.answers.specs.declared.Refusal.{Refusal}
-use Rattle.answers.specs.declared.Number.{Number}
 use Rattle.answers.specs.Said.{said, code}
-use Rattle.settings.specs.Causes.{Passes, passes, settings-cells-le, take-cube}
+use Rattle.answers.specs.Laws.{handed_on}
+use Rattle.settings.specs.declared.Settings.{Settings}
+use Rattle.settings.specs.Forms.{degrees_of}
+use Rattle.settings.specs.Causes.{passes, settings-cells-le}
 use Rattle.settings.specs.Settled.{Settled, settled, unsettled}
 use Rattle.theory.specs.FitSizes.{cells-cube-le}
-use Rattle.room.specs.Sizes.{fit_settings, fit_room_told}
-use Rattle.room.specs.FitPromises.{FitCosts}
 use Rattle.theory.specs.ColumnCount.{columns-le-cells}
+use Rattle.room.specs.declared.sizes.FitSettings.{FitSettings}
+use Rattle.room.specs.Sizes.{fit_asked, grid_of, fit_room_told, fit_room_said}
+use Rattle.room.specs.SizeLaws.{lent_degrees}
+use Rattle.room.specs.FitPromises.{FitCosts}
 use Rattle.room.proofs.FitRooms.{size_turned, size_large, size_passed, fit_room_turned, fit_room_passed, fit_costs}
 use Rattle.room.proofs.sizes.fit_room.Goals as goal
 
-module _ (total w : ℕ) (support : List ℕ) (max-degree grid-degree : ℕ) where
-  -- the fit that is asked for
-  abbrev asked : Fit
-  asked = fit_settings total w support max-degree grid-degree
+module _ (s : FitSettings) where
+  -- an answer that says the room says what it costs
+  costs_of : {r : FitRoom} → r ≡ fit_room_lem (fit_asked s) → FitCosts (length s.support.now) s.max_degree s.grid_degree r
+  costs_of e =
+      subst (FitCosts (length s.support.now) s.max_degree s.grid_degree) (sym e)
+      (fit_costs s.total s.bitwidth s.support.now s.max_degree s.grid_degree)
 
-  -- the answer says its room
-  costs_of : (r : FitRoom) → r ≡ fit_room_lem asked → FitCosts (length support) max-degree grid-degree r
-  costs_of r e = subst (FitCosts (length support) max-degree grid-degree) (sym e) (fit_costs total w support max-degree grid-degree)
-
-  module _ (answer : Number) (says : said answer ≡ settings_reply false total w support (cube support grid-degree)) where
+  module _ {grid : Settings} (is : grid ≡ grid_of s) {answer : Result ℕ Refusal}
+      (checks : said answer ≡ settings_reply false grid.total grid.bitwidth grid.support.now (degrees_of grid)) where
     -- the settings of the grid are turned down
-    turned : {r : Refusal} → answer ≡ Number.Refused r → fit_room_told (code r) 0 0 0 ≡ fit_room_lem asked
+    turned : {r : Refusal} → answer ≡ Err r → fit_room_told (code r) 0 0 0 ≡ fit_room_lem (fit_asked s)
     unfolding settings_reply
-    turned {r} is = fit_room_turned asked r (size_turned asked r (unsettled false total (fits_width w) support (cube support grid-degree) says is).refuses)
+    turned {r} e =
+        fit_room_turned (fit_asked s) r
+        (size_turned (fit_asked s) r (unsettled false s.total (fits_width s.bitwidth) s.support.now (cube s.support.now s.grid_degree) (rw is at checks) e).refuses)
 
     -- they pass, with as many cells as they say
-    module _ {rows : ℕ} (is : answer ≡ Number.Value rows) where
-      ok : Settled false total (fits_width w) support (cube support grid-degree) rows
+    module _ {rows : ℕ} (e : answer ≡ Ok rows) where
+      ok : Settled false s.total (fits_width s.bitwidth) s.support.now (cube s.support.now s.grid_degree) rows
       unfolding settings_reply
-      ok = settled _ _ _ _ _ says is
+      ok = settled _ _ _ _ _ (rw is at checks) e
 
-      pass : Passes total (fits_width w) support
-      pass = passes table_limit _ _ _ _ _ ok.passes
+      short : length s.support.now ≤ 20
+      short = (passes table_limit _ _ _ _ _ ok.passes).short
 
       rows-le : rows ≤ 65536
       rows-le = le_trans (le_of_eq ok.counted) (settings-cells-le table_limit _ _ _ _ _ ok.passes)
 
-      box-le : cells asked.degrees ≤ 65536
-      box-le =
-          le_trans (cells-cube-le (length support) max-degree grid-degree) (settings-cells-le table_limit _ _ _ _ _ ok.passes)
+      module _ {ds : List ℕ} (lent : ds ≡ (fit_asked s).degrees) where
+        box-le : cells ds ≤ 65536
+        box-le =
+            le_trans (le_of_eq (ap cells lent))
+            (le_trans (cells-cube-le (length s.support.now) s.max_degree s.grid_degree) (settings-cells-le table_limit _ _ _ _ _ ok.passes))
 
-      -- the degrees that are lent are those of the answer's box
-      box : (d : ℕ) → d ≡ min max-degree grid-degree → take (length support) (replicate 20 d) ≡ asked.degrees
-      box d e = take-cube support d pass.short ∙ ap (cube support) e
+        -- the columns and the entries of the matrix
+        module _ {c : ℕ} (q : c ≡ length (columns ds s.max_degree)) where
+          counted : c ≡ length (fit_columns_of (fit_asked s))
+          counted = q ∙ ap (λ (ds : List ℕ). length (columns ds s.max_degree)) lent
 
-      -- the columns and the entries of the matrix
-      module _ (d : ℕ) (e : d ≡ min max-degree grid-degree) (c : ℕ) (q : c ≡ length (columns (take (length support) (replicate 20 d)) max-degree)) where
-        counted : c ≡ length (fit_columns_of asked)
-        counted = q ∙ ap (λ (ds : List ℕ). length (columns ds asked.most)) (box d e)
+          columns-le : c ≤ 65536
+          columns-le = le_trans (le_of_eq q) (le_trans (columns-le-cells ds s.max_degree) box-le)
 
-        columns-le : c ≤ 65536
-        columns-le = le_trans (le_of_eq counted) (le_trans (columns-le-cells asked.degrees asked.most) box-le)
+          entries-le : rows * c ≤ 65536 * 65536
+          entries-le = mul-le-mul rows-le columns-le
 
-        entries : rows * c ≡ fit_rows asked * length (fit_columns_of asked)
-        entries = ap₂ ◌*◌ ok.counted counted
+          entries : rows * c ≡ fit_rows (fit_asked s) * length (fit_columns_of (fit_asked s))
+          entries = ap₂ ◌*◌ ok.counted counted
 
-        large : 65536 < rows * c → fit_room_told 8 0 0 0 ≡ fit_room_lem asked
-        large h = fit_room_turned asked Refusal.TooLarge (size_large asked ok.passes (omega (arith, entries)))
+          large : 65536 < rows * c → fit_room_told 8 0 0 0 ≡ fit_room_lem (fit_asked s)
+          large h = fit_room_turned (fit_asked s) Refusal.TooLarge (size_large (fit_asked s) ok.passes (omega (arith, entries)))
 
-        passed : rows * c ≤ 65536 → fit_room_told 0 rows c (rows * c) ≡ fit_room_lem asked
-        passed h = fit_room_passed asked _ _ (size_passed asked ok.passes (omega (arith, entries))) ok.counted counted
+          passed : rows * c ≤ 65536 → fit_room_told 0 rows c (rows * c) ≡ fit_room_lem (fit_asked s)
+          passed h = fit_room_passed (fit_asked s) _ _ (size_passed (fit_asked s) ok.passes (omega (arith, entries))) ok.counted counted
 
-pub slice_bounds-degrees-end : goal.slice_bounds-degrees-end
-slice_bounds-degrees-end c =
-    (pass c.args.total c.args.bitwidth c.args.support.now c.args.max_degree c.args.grid_degree _ c.check.ensures c.in-Value.is).short
-
-pub slice_bounds-count_columns-end : goal.slice_bounds-count_columns-end
-slice_bounds-count_columns-end c =
-    sym (length-take-le _ _
-    (pass c.args.total c.args.bitwidth c.args.support.now c.args.max_degree c.args.grid_degree _ c.check.ensures c.in-Value.is).short)
+pub returns-in_err-rows : goal.returns-in_err-rows
+returns-in_err-rows c =
+    let s = c.args.settings.now in
+    let says = ap fit_room_said (handed_on _ c.from_residual.ensures.1) ∙ turned s c.grid.ensures c.check.ensures c.in_err-rows.was in
+    record { says = says; costs = costs_of s says }
 
 pub count_columns-columns-requires : goal.count_columns-columns-requires
 count_columns-columns-requires c =
-    let k = c.args in
-    le_trans
-    (le_of_eq (ap cells (box k.total k.bitwidth k.support.now k.max_degree k.grid_degree _ c.check.ensures c.in-Value.is _ c.lesser_degree-degree.ensures)))
-    (box-le k.total k.bitwidth k.support.now k.max_degree k.grid_degree _ c.check.ensures c.in-Value.is)
+    let s = c.args.settings.now in
+    let lent = c.as_slice.ensures ∙ lent_degrees c.answer.ensures c.degrees-degrees.ensures.all (short s c.grid.ensures c.check.ensures c.in_ok-rows.was) in
+    box-le s c.grid.ensures c.check.ensures c.in_ok-rows.was lent
 
 pub overflow_mul-entries : goal.overflow_mul-entries
 overflow_mul-entries c =
-    let k = c.args in
-    let r = rows-le k.total k.bitwidth k.support.now k.max_degree k.grid_degree _ c.check.ensures c.in-Value.is in
-    let l =
-    columns-le k.total k.bitwidth k.support.now k.max_degree k.grid_degree _ c.check.ensures c.in-Value.is _ c.lesser_degree-degree.ensures _
-    c.count_columns-columns.ensures in
-    record { fits = omega (arith, mul-le-mul r l) }
+    let s = c.args.settings.now in
+    let lent = c.as_slice.ensures ∙ lent_degrees c.answer.ensures c.degrees-degrees.ensures.all (short s c.grid.ensures c.check.ensures c.in_ok-rows.was) in
+    record { fits = omega (arith, entries-le s c.grid.ensures c.check.ensures c.in_ok-rows.was lent c.count_columns-columns.ensures) }
 
-pub returns-then-entries-clause-says : goal.returns-then-entries-clause-says
-returns-then-entries-clause-says c =
-    let k = c.args in
-    large k.total k.bitwidth k.support.now k.max_degree k.grid_degree _ c.check.ensures c.in-Value.is _ c.lesser_degree-degree.ensures _
-    c.count_columns-columns.ensures c.if-entries.true
+pub returns-then-entries : goal.returns-then-entries
+returns-then-entries c =
+    let s = c.args.settings.now in
+    let lent = c.as_slice.ensures ∙ lent_degrees c.answer.ensures c.degrees-degrees.ensures.all (short s c.grid.ensures c.check.ensures c.in_ok-rows.was) in
+    let says = large s c.grid.ensures c.check.ensures c.in_ok-rows.was lent c.count_columns-columns.ensures c.if-entries.true in
+    record { says = says; costs = costs_of s says }
 
-pub returns-then-entries-clause-costs : goal.returns-then-entries-clause-costs
-returns-then-entries-clause-costs c =
-    let k = c.args in
-    costs_of k.total k.bitwidth k.support.now k.max_degree k.grid_degree _
-    (large k.total k.bitwidth k.support.now k.max_degree k.grid_degree _ c.check.ensures c.in-Value.is _ c.lesser_degree-degree.ensures _
-    c.count_columns-columns.ensures c.if-entries.true)
-
-pub returns-in-Refused-clause-says : goal.returns-in-Refused-clause-says
-returns-in-Refused-clause-says c =
-    let k = c.args in
-    turned k.total k.bitwidth k.support.now k.max_degree k.grid_degree _ c.check.ensures c.in-Refused.is
-
-pub returns-in-Refused-clause-costs : goal.returns-in-Refused-clause-costs
-returns-in-Refused-clause-costs c =
-    let k = c.args in
-    costs_of k.total k.bitwidth k.support.now k.max_degree k.grid_degree _
-    (turned k.total k.bitwidth k.support.now k.max_degree k.grid_degree _ c.check.ensures c.in-Refused.is)
-
-pub returns-else-entries-clause-says : goal.returns-else-entries-clause-says
-returns-else-entries-clause-says c =
-    let k = c.args in
-    passed k.total k.bitwidth k.support.now k.max_degree k.grid_degree _ c.check.ensures c.in-Value.is _ c.lesser_degree-degree.ensures _
-    c.count_columns-columns.ensures c.if-entries.false
-
-pub returns-else-entries-clause-costs : goal.returns-else-entries-clause-costs
-returns-else-entries-clause-costs c =
-    let k = c.args in
-    costs_of k.total k.bitwidth k.support.now k.max_degree k.grid_degree _
-    (passed k.total k.bitwidth k.support.now k.max_degree k.grid_degree _ c.check.ensures c.in-Value.is _ c.lesser_degree-degree.ensures _
-    c.count_columns-columns.ensures c.if-entries.false)
+pub returns : goal.returns
+returns c =
+    let s = c.args.settings.now in
+    let lent = c.as_slice.ensures ∙ lent_degrees c.answer.ensures c.degrees-degrees.ensures.all (short s c.grid.ensures c.check.ensures c.in_ok-rows.was) in
+    let says = passed s c.grid.ensures c.check.ensures c.in_ok-rows.was lent c.count_columns-columns.ensures c.if-entries.false in
+    record { says = says; costs = costs_of s says }

@@ -7,29 +7,29 @@ use native.Mathlib.Omega.{arith}
 use Rattle.settings.specs.Indices.{some-false-at, again-start, again-found, again_next, again-end}
 use Rattle.settings.proofs.support.index_twice.Goals as goal
 
-pub loop-i-init : goal.loop-i-init
-loop-i-init c = (again-start 20 _, refl)
+pub loop-index-init : goal.loop-index-init
+loop-index-init c = (again-start 20 _, refl)
 
-pub bounds-seen-index : goal.bounds-seen-index
-bounds-seen-index c = (let k = c.args in let few = c.requires in omega (arith, few.0, leb-false k.total _ (some-false-at (leb k.total) k.support.now c.loop-i.i c.loop-i-test.true few.1)))
+pub bounds-seen-place : goal.bounds-seen-place
+bounds-seen-place c = (let k = c.args in let few = c.requires in omega (arith, few.0, leb-false k.total _ (some-false-at (leb k.total) k.support.now c.loop-index.index-index c.loop-index-test.true few.1)))
 
-pub returns-then-seen-index : goal.returns-then-seen-index
-returns-then-seen-index c =
+pub returns-then-seen-place : goal.returns-then-seen-place
+returns-then-seen-place c =
     let k = c.args in
-    sym (c.loop-i.invariant.0 ∙ again-found c.loop-i.seen k.support.now c.loop-i.i c.loop-i-test.true c.if-seen-index.true)
+    sym (c.loop-index.invariant.0 ∙ again-found c.loop-index.seen k.support.now c.loop-index.index-index c.loop-index-test.true c.if-seen-place.true)
 
-pub bounds-seen-index-in-loop-i : goal.bounds-seen-index-in-loop-i
-bounds-seen-index-in-loop-i c = (let k = c.args in let few = c.requires in omega (arith, few.0, leb-false k.total _ (some-false-at (leb k.total) k.support.now c.loop-i.i c.loop-i-test.true few.1)))
+pub bounds-seen-place-in-loop-index : goal.bounds-seen-place-in-loop-index
+bounds-seen-place-in-loop-index c = (let k = c.args in let few = c.requires in omega (arith, few.0, leb-false k.total _ (some-false-at (leb k.total) k.support.now c.loop-index.index-index c.loop-index-test.true few.1)))
 
-pub loop-i-preserved : goal.loop-i-preserved
-loop-i-preserved c =
+pub loop-index-preserved : goal.loop-index-preserved
+loop-index-preserved c =
     let k = c.args in (
-      c.loop-i.invariant.0
-          ∙ again_next c.loop-i.seen k.support.now c.loop-i.i c.loop-i-test.true (rw c.loop-i.invariant.1 ((let k = c.args in let few = c.requires in omega (arith, few.0, leb-false k.total _ (some-false-at (leb k.total) k.support.now c.loop-i.i c.loop-i-test.true few.1))))) c.if-seen-index.false,
-      simp length-set c.loop-i.invariant.1,
+      c.loop-index.invariant.0
+          ∙ again_next c.loop-index.seen k.support.now c.loop-index.index-index c.loop-index-test.true (rw c.loop-index.invariant.1 ((let k = c.args in let few = c.requires in omega (arith, few.0, leb-false k.total _ (some-false-at (leb k.total) k.support.now c.loop-index.index-index c.loop-index-test.true few.1))))) c.if-seen-place.false,
+      simp length-set c.loop-index.invariant.1,
     )
 
 pub returns : goal.returns
 returns c =
     let k = c.args in
-    sym (c.loop-i.invariant.0 ∙ again-end c.loop-i.seen k.support.now c.loop-i.i c.loop-i-test.false)
+    sym (c.loop-index.invariant.0 ∙ again-end c.loop-index.seen k.support.now c.loop-index.index-index c.loop-index-test.false)

@@ -1,4 +1,4 @@
--- The loop: the numbers before k are less q times the pivot row's, the others as they were; the measure is what is left.
+-- The loop: the numbers before k are less q times the pivot row's, the others as they were.
 use Rattle.std.proofs.Common.{arith}
 use Rattle.theory.specs.Tables.{filled_done}
 use Rattle.two_adic_solver.proofs.rows.subtract_row.Goals as goal

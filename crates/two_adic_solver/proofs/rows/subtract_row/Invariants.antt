@@ -1,5 +1,5 @@
--- The loop: the numbers before k are less q times the pivot row's, the others as they were; the measure is what is left.
-use Rattle.std.proofs.Common.{◌-◌, ◌*◌, ◌^◌, length}
+-- The loop: the numbers before k are less q times the pivot row's, the others as they were.
+use Rattle.std.proofs.Common.{◌*◌, ◌^◌}
 use Rattle.meaning.specs.Tables.{at}
 use Rattle.meaning.specs.Differences.{minus}
 use Rattle.theory.specs.Tables.{Filled}
@@ -7,6 +7,3 @@ use Rattle.two_adic_solver.proofs.rows.subtract_row.Given as goal
 
 abbrev pub invariant-loop-k : goal.invariant-loop-k
 invariant-loop-k l = Filled (λ k. minus (2 ^ l.bitwidth) (at l.initial.row k) (l.q * at l.pivot k)) l.initial.row l.row l.k
-
-abbrev pub decreases-loop-k : goal.decreases-loop-k
-decreases-loop-k l = length l.row - l.k

@@ -1,12 +1,13 @@
--- The loop: `total` is the sum of the first k products, modulo 2^64; the measure is what is left of the row.
-use Rattle.two_adic_solver.proofs.SubstitutionLaws.{sum_none}
-use Rattle.std.proofs.Common.{◌*◌, zero-le, arith}
-use Rattle.meaning.specs.Tables.{at}
-use Rattle.two_adic_solver.proofs.SubstitutionLaws.{sum_more}
+-- The chain folds the pairs, and the fold is the sum (`products`).
+use Rattle.std.proofs.Common.{◌∙◌, rules}
+use Rattle.std.proofs.lemmas.Iterator.{YieldsList-from_slice, YieldsList-from_zip}
+use Rattle.std.proofs.lemmas.Iterator.Consumers.{fold_from_yields_List}
+use Rattle.two_adic_solver.proofs.TestLaws.{product_more, products}
 use Rattle.two_adic_solver.proofs.substitution.dot.Goals as goal
 
-pub loop-k-init : goal.loop-k-init
-loop-k-init c = (sum_none _, zero-le)
-
-pub loop-k-preserved : goal.loop-k-preserved
-loop-k-preserved c = let a = c.args in (sum_more (λ j. at a.row.now j * at a.x.now j) c.loop-k.k _ _ _ c.loop-k.invariant.0 c.wrapping_mul.ensures c.wrapping_add_u64-total.ensures.value, omega (arith, c.loop-k-test.true))
+pub returns : goal.returns
+returns c =
+    let a = c.args in
+    let folded = fold_from_yields_List _ product_more 0 c.fold.result c.fold.ensures.ran
+    (YieldsList-from_zip {s = c.zip.result} (YieldsList-from_slice a.row.now cc) (YieldsList-from_slice a.x.now cc)) (λ t q r f k. search rules) in
+    folded ∙ products a.row.now a.x.now c.requires

@@ -1,10 +1,12 @@
--- The loop: the first c columns have a pivot row. One that has none closes the early return (`every_fails`), all of them the end (`every-all`).
-use Rattle.std.proofs.Common.{sym, arith, le-ltb}
-use Rattle.two_adic_solver.proofs.SubstitutionLaws.{every-all, every_fails}
+-- The chain's test of the whole list is the test of every place.
+use Rattle.std.proofs.Common.{nat_lt, ◌∙◌, rules, tests}
+use Rattle.std.proofs.lemmas.Iterator.{YieldsList-from_slice}
+use Rattle.std.proofs.lemmas.Iterator.Search.{all_from_yields_List}
+use Rattle.two_adic_solver.proofs.TestLaws.{every_list}
 use Rattle.two_adic_solver.proofs.substitution.pivots_found.Goals as goal
 
-pub returns-then-rows-pivots : goal.returns-then-rows-pivots
-returns-then-rows-pivots c = sym (every_fails _ _ c.loop-c.c c.loop-c-test.true (le-ltb _ _ c.if-rows-pivots.true))
-
 pub returns : goal.returns
-returns c = sym (every-all _ _ (λ i l. c.loop-c.invariant i (omega (arith, c.loop-c-test.false))))
+returns c =
+    let a = c.args in
+    let tested = all_from_yields_List (λ row. nat_lt row a.rows) _ _ c.all.result c.all.ensures.ran (YieldsList-from_slice a.pivots.now cc) (λ x b q k. search (rules, tests)) in
+    tested ∙ every_list _ a.pivots.now

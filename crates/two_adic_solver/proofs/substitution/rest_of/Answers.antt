@@ -3,7 +3,9 @@ use Rattle.two_adic_solver.proofs.SubstitutionLaws.{rest_computed}
 use Rattle.two_adic_solver.proofs.substitution.rest_of.Goals as goal
 
 pub returns : goal.returns
-returns c =
-    let a = c.args in let p = c.requires.matrix_len in let q = c.requires.answer_len in
-    rest_computed _ _ a.columns a.matrix.now a.right.now a.answer.now a.pivot a.column c.dot-known.result _
-    p.0 p.3 p.2 q.0 q.1 c.dot-known.ensures c.mod_sub.ensures
+returns g c =
+    let a = c.args in
+    let p = c.requires in
+    let laws = g.met.S.System in
+    rest_computed _ _ _ _ _ a.answer.now a.row a.column c.dot-known.result _ (laws.whole_length _ p.0)
+    p.3 p.2 p.1 (laws.whole_width _ p.0) (rw (c.behind.ensures, p.1) at c.dot-known.ensures) (rw (c.right.ensures, c.width.ensures) at c.mod_sub.ensures)

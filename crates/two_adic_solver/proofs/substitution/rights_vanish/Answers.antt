@@ -1,10 +1,13 @@
--- The loop: the first i rows are used or have the right side 0. One that does not vanish closes the early return, all of them the end.
-use Rattle.std.proofs.Common.{sym, ◌∙◌, arith}
-use Rattle.two_adic_solver.proofs.SubstitutionLaws.{every-all, every_fails}
+-- The chain's test of the pairs is the test of every place.
+use Rattle.std.proofs.Common.{ℕ, Bool, ◌||◌, nat_eq, ◌∙◌, rules, tests}
+use Rattle.std.proofs.lemmas.Iterator.{YieldsList-from_slice, YieldsList-from_zip}
+use Rattle.std.proofs.lemmas.Iterator.Search.{all_from_yields_List}
+use Rattle.two_adic_solver.proofs.TestLaws.{every_zip}
 use Rattle.two_adic_solver.proofs.substitution.rights_vanish.Goals as goal
 
-pub returns-then-not-vanishes : goal.returns-then-not-vanishes
-returns-then-not-vanishes c = sym (every_fails _ _ c.loop-i.i c.loop-i-test.true (sym c.vanishes.ensures ∙ c.if-not-vanishes.true))
-
 pub returns : goal.returns
-returns c = sym (every-all _ _ (λ i l. c.loop-i.invariant i (omega (arith, c.loop-i-test.false))))
+returns c =
+    let a = c.args in
+    let tested = all_from_yields_List (λ (q : ℕ × Bool). q.1 || nat_eq q.0 0) c.all.new.self _ c.all.result c.all.ensures.ran
+    (YieldsList-from_zip {s = c.zip.result} (YieldsList-from_slice a.right.now cc) (YieldsList-from_slice a.used.now cc)) (λ x b q k. search (rules, tests)) in
+    tested ∙ every_zip _ a.right.now a.used.now c.requires

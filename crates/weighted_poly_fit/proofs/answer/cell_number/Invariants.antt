@@ -4,6 +4,3 @@ use Rattle.weighted_poly_fit.proofs.answer.cell_number.Given as goal
 
 abbrev pub invariant-loop-i : goal.invariant-loop-i
 invariant-loop-i l = CellFrom l.degrees l.exps l.number l.i
-
-abbrev pub decreases-loop-i : goal.decreases-loop-i
-decreases-loop-i l = l.i

@@ -1,25 +1,21 @@
--- The loop adds the twos of one factorial after the other.
-use Prim.Native.Nat.{◌≤◌}
-use native.Mathlib.Omega.{arith}
-use Rattle.meaning.specs.Tables.{at}
+-- The library's sum: the twos of one factorial after the other, of which a byte's has at most 255.
+use Rattle.std.proofs.Common.{◌≡◌, ◌^◌, ◌∙◌, sym, rules, arith}
+use Rattle.std.specs.List.{sum_by}
+use Rattle.std.proofs.lemmas.Iterator.{YieldsList-from_slice, YieldsList-from_map}
+use Rattle.std.proofs.lemmas.Iterator.Consumers.{fits_by_from_yields_list, YieldsList-at}
 use Rattle.meaning.specs.Factorials.{factorial, twos}
-use Rattle.meaning.specs.Values.{weight}
-use Rattle.theory.specs.Twos.{legendre}
-use Rattle.weighted_poly_fit.proofs.ExponentLists.{summed_next, summed_done, weight_more, weight_none}
+use Rattle.weighted_poly_fit.proofs.ExponentLists.{weight-sum, twos_few}
 use Rattle.weighted_poly_fit.proofs.answer.factorial_twos.Goals as goal
 
-pub overflow_add-twos : goal.overflow_add-twos
-overflow_add-twos c =
-    let l = c.loop-i.invariant in
-    let few : twos (factorial (at c.args.exps.now c.loop-i.i)) ≤ 255 = omega (arith, legendre (at c.args.exps.now c.loop-i.i), c.type_inv.exps c.loop-i.i) in
-    omega (arith, few, c.twos_in_factorial-twos.ensures, l.small, l.few, c.requires)
-
-pub loop-i-preserved : goal.loop-i-preserved
-loop-i-preserved c =
-    let few : twos (factorial (at c.args.exps.now c.loop-i.i)) ≤ 255 = omega (arith, legendre (at c.args.exps.now c.loop-i.i), c.type_inv.exps c.loop-i.i) in
-    rw c.twos_in_factorial-twos.ensures
-    (summed_next weight (λ e. twos (factorial e)) weight_more weight_none
-    c.loop-i.invariant c.loop-i-test.true few)
+pub sum-requires-clause-fits : goal.sum-requires-clause-fits
+sum-requires-clause-fits c =
+    let es = c.args.exps.now in
+    fits_by_from_yields_list (λ e. twos (factorial e)) es c.map.result (2 ^ 32)
+    (YieldsList-from_map _ (λ e. twos (factorial e)) (YieldsList-at c.map.ensures.source (YieldsList-from_slice es cc)) c.map.ensures.closure (λ x r q k. search rules))
+    (omega (arith, twos_few es (λ i. omega (arith, c.type_inv.exps i)), c.requires))
 
 pub returns : goal.returns
-returns c = summed_done weight (λ e. twos (factorial e)) weight_more weight_none c.loop-i.invariant c.loop-i-test.false
+returns c =
+    let es = c.args.exps.now in
+    let summed : c.sum.result ≡ sum_by (λ e. twos (factorial e)) es = search rules in
+    summed ∙ sym (weight-sum es)

@@ -1,5 +1,4 @@
 -- The measure is the number of variables that remain. The loop walks over the exponents of the first of them.
-use Prim.Native.Nat.{◌+◌, ◌-◌}
 use lib.ListN.{length}
 use Rattle.weighted_poly_fit.proofs.Steps.{Steps}
 use Rattle.weighted_poly_fit.proofs.columns.+enumerate_basis_recurse.Given as goal
@@ -9,6 +8,3 @@ decreases-enumerate_basis_recurse l = length l.degrees.now
 
 abbrev pub invariant-loop-e : goal.invariant-loop-e
 invariant-loop-e l = Steps l.initial.table l.at l.initial.current l.degrees l.left l.place l.highest l.table l.current l.next l.e
-
-abbrev pub decreases-loop-e : goal.decreases-loop-e
-decreases-loop-e l = l.highest + 1 - l.e

@@ -1,4 +1,5 @@
 -- The loop over the total degrees.
+use native.Mathlib.Omega.{arith}
 use Rattle.weighted_poly_fit.proofs.ByDegrees.{degrees_start, degrees_room, degrees_next, degrees_done}
 use Rattle.weighted_poly_fit.proofs.columns.enumerate_basis.Goals as goal
 
@@ -13,5 +14,7 @@ loop-degree-preserved c =
     let k = c.enumerate_basis_recurse-next in
     degrees_next c.loop-degree.invariant c.loop-degree-test.true _ _ _ k.auto.current k.ensures
 
-pub returns : goal.returns
-returns c = degrees_done c.loop-degree.invariant c.loop-degree-test.false
+pub returns-2 : goal.returns-2
+returns-2 c =
+    let k = c.enumerate_basis_recurse-next in
+    degrees_done (degrees_next c.loop-degree.invariant c.loop-degree-test.true _ _ _ k.auto.current k.ensures) (omega arith)

@@ -1,10 +1,6 @@
 -- The loop over the total degrees.
-use Prim.Native.Nat.{◌+◌, ◌-◌}
 use Rattle.weighted_poly_fit.proofs.ByDegrees.{Degrees}
 use Rattle.weighted_poly_fit.proofs.columns.enumerate_basis.Given as goal
 
 abbrev pub invariant-loop-degree : goal.invariant-loop-degree
 invariant-loop-degree l = Degrees l.initial.table l.initial.current l.degrees l.last l.table l.current l.next l.degree
-
-abbrev pub decreases-loop-degree : goal.decreases-loop-degree
-decreases-loop-degree l = l.last + 1 - l.degree

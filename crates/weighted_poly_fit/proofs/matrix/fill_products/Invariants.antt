@@ -1,11 +1,8 @@
 -- The loop fills the row of one coordinate after the other.
-use Prim.Native.Nat.{◌-◌}
+use Prim.Native.Nat.{◌*◌}
 use Rattle.weighted_poly_fit.specs.Entries.{fallen}
 use Rattle.theory.specs.FilledRows.{Rows}
 use Rattle.weighted_poly_fit.proofs.matrix.fill_products.Given as goal
 
 abbrev pub invariant-loop-x : goal.invariant-loop-x
-invariant-loop-x l = Rows (fallen l.bitwidth) l.side l.size l.initial.table l.table l.from l.x
-
-abbrev pub decreases-loop-x : goal.decreases-loop-x
-decreases-loop-x l = l.side - l.x
+invariant-loop-x l = Rows (fallen l.bitwidth) l.side l.size l.initial.table l.table (l.x * l.size) l.x

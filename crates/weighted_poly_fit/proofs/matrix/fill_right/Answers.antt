@@ -10,8 +10,8 @@ use Rattle.weighted_poly_fit.proofs.matrix.fill_right.Goals as goal
 pub loop-i-preserved : goal.loop-i-preserved
 loop-i-preserved c =
     let n = at c.args.targets.now c.loop-i.i in
-    filled_step _ _ c.loop-i.right c.loop-i.i _ c.loop-i.invariant c.loop-i-test.true
+    filled_step _ _ c.loop-i.right c.loop-i.i _ c.loop-i.invariant (omega arith)
     (ap (bit_and n) c.bitmask-mask.ensures ∙ masked_low n c.args.bitwidth c.requires.1)
 
 pub returns : goal.returns
-returns c = filled_done _ _ c.loop-i.right c.loop-i.i c.loop-i.invariant (omega (arith, c.loop-i.invariant.same, c.loop-i-test.false))
+returns c = filled_done _ _ c.loop-i.right c.loop-i.i c.loop-i.invariant (omega (arith, c.loop-i.invariant.same))

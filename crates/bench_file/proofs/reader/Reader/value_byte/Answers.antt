@@ -1,0 +1,18 @@
+-- One of the first 20 columns or the last one, after which a line end is due, or no number.
+use Rattle.bench_file.specs.Steps.{value_byte_of}
+use Rattle.std.proofs.Common.{arith}
+use Rattle.std.proofs.lemmas.Grind.{common_steps}
+use Rattle.std.proofs.lemmas.Bool.Decides.{nat_tests}
+use Rattle.bench_file.proofs.reader.Reader.value_byte.Goals as goal
+
+pub returns-in-Some : goal.returns-in-Some
+unfolding value_byte_of
+returns-in-Some c = grind (arith, common_steps, nat_tests)
+
+pub returns-in-Some-2 : goal.returns-in-Some-2
+unfolding value_byte_of
+returns-in-Some-2 c = grind (arith, common_steps, nat_tests)
+
+pub returns-in-None : goal.returns-in-None
+unfolding value_byte_of
+returns-in-None c = grind (arith, common_steps, nat_tests)

@@ -1,9 +1,0 @@
--- The loop: nothing differs exactly if the first i pairs pass, and the mask is that of entry i (`LineTested`).
-use Rattle.box_rows.proofs.Gathered.{line_none, line_more}
-use Rattle.box_rows.proofs.tests.agree_line.Goals as goal
-
-pub loop-i-init : goal.loop-i-init
-loop-i-init c = line_none _ _ _ _ _ c.requires.1 c.bitmask-mask.ensures
-
-pub loop-i-preserved : goal.loop-i-preserved
-loop-i-preserved c = line_more c.loop-i.invariant c.loop-i-test.true _ c.twos_in.ensures.twos

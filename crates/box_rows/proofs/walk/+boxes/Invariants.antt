@@ -1,0 +1,13 @@
+-- The measure is the number of degrees. The loop: the sub-boxes below the last exponent e pass (`Turns`), and `left` are the bits that e leaves.
+use Rattle.std.proofs.Common.{length}
+use Rattle.box_rows.proofs.Turns.{Turns}
+use Rattle.box_rows.proofs.walk.+boxes.Given as goal
+
+abbrev pub decreases-boxes : goal.decreases-boxes
+decreases-boxes g l = length l.part.now.degrees.now
+
+abbrev pub invariant-loop-e : goal.invariant-loop-e
+invariant-loop-e g l =
+    let j = g.J.Job in
+    let p = l.part in
+    Turns (j.left l.job) (j.passes l.job) p.bits p.degrees.now p.from p.count l.initial.table l.table l.size l.left l.e l.from

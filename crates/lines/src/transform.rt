@@ -1,0 +1,51 @@
+// What a transform of lines is.
+ghost use Rattle.std.specs.Prelude.{◌≡◌, ℕ, suc, ◌*◌, ◌%◌, ◌^◌, ◌<◌, ◌≤◌, true, cond, length};
+ghost use Rattle.meaning.specs.Tables.{tabulate, at};
+ghost use Rattle.theory.specs.AlongEach.{Line};
+ghost use Rattle.lines.specs.FlatTables.{lined, blocked, Local};
+ghost use Rattle.lines.specs.LowDegrees.{Leaves};
+ghost use Rattle.lines.specs.Transforms.{Words, OfMul};
+
+// A transform of lines, with what it makes of four numbers modulo 2^64.
+pub trait FourTransform: Copy {
+    // the line that becomes of a line, modulo m
+    ghost line: { Self → ℕ → Line };
+
+    // Whether lines of degree 3 go two a turn, so that the compiler leaves them to single products, which are quicker than its vectors.
+    const BY_TWOS: bool;
+
+    // A line of degree 3.
+    fn four(self, numbers: [u64; 4]) -> [u64; 4]
+        ensures { Words numbers → (j : ℕ) → j ≤ 3 → at result j ≡ line self (2 ^ 64) 3 (at numbers) j };
+
+    // a transform only reads its line
+    ghost local: { (x : Self) (m : ℕ) → Local (line x m) };
+
+    // and a narrower modulus is read off the result
+    ghost of_mul: { (x : Self) → OfMul (line x) };
+}
+
+// How it is done to the lines of a table, in place and modulo 2^64.
+pub trait LineTransform: FourTransform {
+    // Whether lines of a degree stay as they are.
+    fn leaves_lines(self, degree: u8) -> bool
+        ensures { result ≡ true → Leaves (Self.line self (2 ^ 64)) degree };
+
+    // The lines of a first variable, which lie one behind the other, by a way of their own, where there is one for their degree: whether there is.
+    fn neighbours(self, table: &mut [u64], degree: u8) -> bool
+        requires { (suc degree ≤ length table.old) × (length table.old % suc degree ≡ 0) }
+        ensures { table.new ≡ cond result (tabulate (length table.old) (blocked (Self.line self (2 ^ 64)) 1 degree (at table.old))) table.old };
+
+    // Every line of a block of `stride` interleaved lines.
+    fn block(self, part: &mut [u64], stride: usize, degree: u8)
+        requires { (0 < stride) × (length part.old ≡ stride * suc degree) }
+        ensures { part.new ≡ tabulate (length part.old) (lined (Self.line self (2 ^ 64)) stride degree (at part.old)) };
+}
+
+// A transform that is given by a number.
+pub trait OfNumber: LineTransform {
+    ghost given: { ℕ → Self };
+
+    fn of(number: u64) -> Self
+        ensures { result ≡ given number };
+}

@@ -1,0 +1,2 @@
+-- What the answers with a key say (Keys).
+pub mod Keys

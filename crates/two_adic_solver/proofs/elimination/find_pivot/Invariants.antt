@@ -1,0 +1,10 @@
+-- The loop: `found` and `least` are the lowest of the first rows.
+use Rattle.std.proofs.Common.{length}
+use Rattle.two_adic_solver.specs.Rows.{height_of}
+use Rattle.two_adic_solver.proofs.RowLaws.{Searched}
+use Rattle.two_adic_solver.proofs.elimination.find_pivot.Given as goal
+
+abbrev pub invariant-loop-row : goal.invariant-loop-row
+invariant-loop-row g l =
+    let m = g.S.System in
+    Searched (m.width l.system) (length (m.right l.system)) (height_of (m.width l.system) (m.columns l.system) (m.entries l.system) l.used l.column) l.found l.least l.row
