@@ -1,12 +1,8 @@
 -- A table copied, transformed modulo 2^64 and cut to a width is the box transformed at the width. At width 64 there is nothing to cut.
-use mathlib.Core.Path.{◌≡◌, refl, sym, ap, ◌∙◌}
-use Prim.Native.Nat.{ℕ, ◌%◌, ◌^◌, ◌≤◌, ◌<◌, min}
-use native.Mathlib.Nat.{min-eq_left, min-eq_right, mod-eq_of_lt}
-use mathlib.Core.Bool.{cond}
-use mathlib.Core.List.{List}
+use Rattle.std.specs.Prelude.{◌≡◌, refl, ℕ, ◌%◌, ◌^◌, ◌≤◌, ◌<◌, min, cond, List, eqb, length}
+use Rattle.std.proofs.Common.{sym, ap, ◌∙◌, mod-eq_of_lt}
+use Rattle.std.proofs.Math.Nat.{min-eq_left, min-eq_right}
 use borrow.Author.Tests.{eq-eqb}
-use lib.Dec.{eqb}
-use lib.ListN.{length}
 use Rattle.meaning.specs.Tables.{tabulate, at}
 use Rattle.meaning.specs.Boxes.{cells}
 use Rattle.theory.specs.Tables.{eq-tabulate}

@@ -17,7 +17,7 @@ use answers::Refusal;
 use lines::LineTransform;
 use settings::Settings;
 
-// A conversion, or its refusal.
+// A conversion, or its refusal. It takes what both calls below take, whose parameters are those of all calls on a box.
 fn transform_basis<T: LineTransform>(
     transform: T,
     coeffs: &[u64],

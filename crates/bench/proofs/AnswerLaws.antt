@@ -1,22 +1,14 @@
 -- From the answers of the calls to the text of the layout.
-use Rattle.std.specs.Prelude.{Ok, Err, ⊤, Result, MatchResult, IsOkAnd}
-use mathlib.Core.Path.{◌≡◌, refl, sym, ◌∙◌, ap, ap₂, subst}
-use mathlib.Core.Bool.{Bool, true, false, ◌&&◌, cond}
-use mathlib.Core.List.{List, [], ◌++◌, append-nil}
-use mathlib.Core.Logic.{⊎_elim}
-use Prim.Native.Nat.{ℕ, zero, suc, ◌+◌, ◌-◌, ◌≤◌, min}
-use native.Mathlib.Nat.{suc-ne-zero}
-use native.Mathlib.Omega.{arith}
+use Rattle.std.specs.Prelude.{Ok, Err, ⊤, Result, MatchResult, IsOkAnd, ◌≡◌, refl, Bool, true, false, ◌&&◌, cond, List, [], ◌++◌, ℕ, zero, suc, ◌+◌, ◌-◌, ◌≤◌, min, eqb, length, take, drop}
+use Rattle.std.proofs.Common.{sym, ◌∙◌, ap, ap₂, subst, append-nil, ⊎_elim, suc-ne-zero, arith, length-append, take_at, length-take-le}
+use Rattle.std.proofs.Math.Seq.{sets, sets-eq}
 use borrow.Author.Tests.{eq-eqb, ne_eqb}
-use lib.Dec.{eqb}
-use lib.ListN.{length, take, drop, length-append}
-use lib.Seq.{sets, sets-eq, take_at, length-take-le}
 use Rattle.std.specs.declared.option.Option.{Option}
 use Rattle.std.specs.Result.{result_unwrap_or}
 use Rattle.answers.specs.declared.Refusal.{Refusal}
 use Rattle.answers.specs.Said.{said, said_number}
-use Rattle.std.specs.Io.KnownBytes.{Consumes, Keeps}
-use Rattle.std.proofs.KnownBytes.{Consumes-nil, Consumes-trans, Consumes-kept}
+use Rattle.std.specs.Io.KnownBytes.{Consumes}
+use Rattle.std.proofs.KnownBytes.{Consumes-nil, Consumes-trans}
 use Rattle.meaning.specs.Tables.{tabulate}
 use Rattle.meaning.specs.Boxes.{cells}
 use Rattle.meaning.specs.Replies.{Reply, told}
@@ -26,7 +18,7 @@ use Rattle.meaning.specs.Calls.{reply, left, in_out_number, recovery_number, rec
 use Rattle.theory.specs.AcceptedCalls.{number-reply}
 use Rattle.settings.specs.Causes.{passes, passes_higher, settings-cells-le}
 use Rattle.theory.specs.Ranges.{width_high}
-use Rattle.bench_file.specs.Layout.{Head, longest_file, ill_head, ill_values, whole, degrees_of, head_number, bench_number, accepted_text, refused_text, bench_text}
+use Rattle.bench_file.specs.Layout.{Head, longest_file, ill_head, ill_values, whole, degrees_of, head_number, bench_number, refused_text, bench_text}
 use Rattle.bench_file.specs.Verdict.{verdict, narrowed}
 use Rattle.bench_file.specs.VerdictLaws.{narrowed_width, narrowed-total}
 use Rattle.bench_file.specs.Steps.{State, state, none_read, fed}
@@ -37,10 +29,7 @@ use Rattle.settings.specs.declared.Settings.{Settings}
 use Rattle.bench.specs.Answers.{LedFrom, asked, asked_by, text_for, number_of, text_of}
 use Rattle.bench_file.specs.declared.reader.IllFormed.{IllFormed}
 
--- the number in a text: 0, or not
-pub text_for_zero : (n : ℕ) (ds cs : List ℕ) → n ≡ 0 → text_for n ds cs ≡ accepted_text ds cs
-text_for_zero n ds cs e = simp (eq-eqb n 0 e)
-
+-- the number in a text is not 0
 pub text_for_pos : (n : ℕ) (ds cs : List ℕ) → (n ≡ 0 → ⊥) → text_for n ds cs ≡ refused_text n
 text_for_pos n ds cs e = simp (ne_eqb n 0 e)
 
@@ -175,7 +164,9 @@ module _ (w total d : ℕ) (support : List ℕ) where
           go (suc n) e = text_stopping n e
 
 -- an outcome without its number
-pub mapped : (F : ℕ → ⊤ → Type 0) (a : Result ℕ Refusal) (b : Result ⊤ Refusal) → MatchResult a (λ x. IsOkAnd b (F x)) (λ r. b ≡ Err r) → said_number b ≡ (said a).number
+pub mapped : (F : ℕ → ⊤ → Type 0) (a : Result ℕ Refusal) (b : Result ⊤ Refusal)
+    → MatchResult a (λ x. IsOkAnd b (F x)) (λ r. b ≡ Err r)
+    → said_number b ≡ (said a).number
 mapped F (Ok n) (Ok u) m = refl
 mapped F (Ok n) (Err r) m = absurd m
 mapped F (Err q) b m = ap said_number m
@@ -322,6 +313,3 @@ led_end a b c t₀ r t left n buf l e k = (
   subst (λ (bs : List ℕ). Consumes a c bs) (ap (λ (n : ℕ). l.0.bytes ++ take n buf) e ∙ append-nil l.0.bytes)
       (Consumes-trans a b c l.0.bytes (take n buf) l.1 k),
 )
-
-pub led_failed : (a b c : Option (List ℕ)) (t₀ : List ℕ) (r : Reader) (t : List ℕ) (left : ℕ) → LedFrom a b t₀ r t left → Keeps b c → LedFrom a c t₀ r t left
-led_failed a b c t₀ r t left l k = (l.0, Consumes-kept a b c l.0.bytes l.1 k)

@@ -1,12 +1,7 @@
 -- From the reader and the text to what becomes of the input.
-use mathlib.Core.Path.{◌≡◌, refl, sym, ◌∙◌, ap, ap₂, subst}
-use mathlib.Core.List.{List, [], ◌++◌, append-nil}
-use Prim.Native.Nat.{ℕ, ◌+◌, ◌≤◌}
-use native.Mathlib.Omega.{arith}
-use lib.ListN.{length, take, drop, replicate}
-use lib.Seq.{sets-eq, take_at, length-sets}
-use Rattle.std.specs.Prelude.{None, Some, IfSome, Option, Ok, Err, ⊤, Result, ◌⊎◌, IsSome}
-use mathlib.Core.Logic.{⊎_elim, inl, inr}
+use Rattle.std.proofs.Common.{sym, ◌∙◌, ap, ap₂, subst, append-nil, arith, take_at, ⊎_elim, inl, inr}
+use Rattle.std.proofs.Math.Seq.{sets-eq, length-sets}
+use Rattle.std.specs.Prelude.{◌≡◌, refl, List, [], ◌++◌, ℕ, ◌+◌, ◌≤◌, length, take, drop, replicate, None, Some, IfSome, Option, Ok, Err, ⊤, Result, ◌⊎◌, IsSome}
 use Rattle.std.specs.Io.KnownBytes.{Consumes, Appends, IsAtEnd}
 use Rattle.std.proofs.KnownBytes.{Consumes-whole}
 use Rattle.bench_file.specs.Layout.{Content, Says, ill_head, ill_values, whole, bench_text}

@@ -1,12 +1,7 @@
 -- What is printed of the bytes that were fed is what the layout says of them.
-use Rattle.std.specs.Prelude.{Ok, Err, ⊤, Result}
-use mathlib.Core.Path.{◌≡◌, refl, sym, ◌∙◌, ap, ap₂, subst}
-use mathlib.Core.List.{List}
-use Prim.Native.Nat.{ℕ, ◌≤◌, ◌<◌, min}
-use mathlib.Core.Logic.{⊎_elim}
-use native.Mathlib.Omega.{arith}
-use lib.ListN.{length, take, drop, replicate, length-drop, length-replicate}
-use lib.Seq.{take_all}
+use Rattle.std.specs.Prelude.{Ok, Err, ⊤, Result, ◌≡◌, refl, List, ℕ, ◌≤◌, ◌<◌, min, length, take, drop, replicate}
+use Rattle.std.proofs.Common.{sym, ◌∙◌, ap, ap₂, subst, ⊎_elim, arith, length-drop, take_all}
+use Rattle.std.proofs.Math.ListN.{length-replicate}
 use Rattle.meaning.specs.Tables.{at}
 use Rattle.bench_file.specs.Layout.{Head, Content, Says, says_ill_values, says_whole, GoodHead, ill_head, ill_values, whole, bench_text}
 use Rattle.bench_file.specs.Steps.{State, state, head_of, reading_of}
@@ -91,7 +86,8 @@ module _ (r : Reader) (t bs : List ℕ) (x : Content) (led : FedBy r t bs) (says
       by_reading (reading_of r)
       (subst (λ (s : State). ReadAs t₀ bs s (reading_of s.reader)) (sym led) (read_as t₀ bs))
 
-pub asked_text : (r : Reader) (s : Settings) → SaidBy r.head s → length r.head ≡ 24 → (y : Result ⊤ IllFormed) → y ≡ reading_of r → (t bs : List ℕ) (x : Content)
+pub asked_text : (r : Reader) (s : Settings) → SaidBy r.head s → length r.head ≡ 24
+    → (y : Result ⊤ IllFormed) → y ≡ reading_of r → (t bs : List ℕ) (x : Content)
     → FedBy r t bs → Says bs x → text_of y (asked_by s) r.count t ≡ bench_text x
 asked_text r s said size y e t bs x led says =
     text_asked r.head s said size y r.count t

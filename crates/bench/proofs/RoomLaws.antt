@@ -1,14 +1,8 @@
 -- The longest text has 1,122,347 bytes: 4,096 lines of 12 exponents and a coefficient, after the first line.
-use mathlib.Core.Path.{◌≡◌, refl, ap, subst}
-use mathlib.Core.Bool.{Bool, true, false, ◌||◌, cond, true≢false}
-use mathlib.Core.List.{List}
-use mathlib.Core.Logic.{⊎_elim}
-use Prim.Native.Nat.{ℕ, zero, suc, ◌+◌, ◌*◌, ◌-◌, ◌≤◌, ◌<◌}
-use native.Mathlib.Nat.{suc-ne-zero, mul-le-mul_left}
-use native.Mathlib.Omega.{arith}
+use Rattle.std.specs.Prelude.{◌≡◌, refl, Bool, true, false, ◌||◌, cond, List, ℕ, zero, suc, ◌+◌, ◌*◌, ◌-◌, ◌≤◌, ◌<◌, eqb, ltb, length, replicate}
+use Rattle.std.proofs.Common.{ap, subst, true≢false, ⊎_elim, suc-ne-zero, mul-le-mul_left, arith}
+use Rattle.std.proofs.Math.ListN.{length-replicate}
 use borrow.Author.Tests.{eqb-false, eqb-true}
-use lib.Dec.{eqb, ltb}
-use lib.ListN.{length, replicate, length-replicate}
 use Rattle.meaning.specs.Boxes.{cells}
 use Rattle.meaning.specs.Settings.{fits_width, some, limited_number, settings_number}
 use Rattle.meaning.specs.Recovery.{answer}

@@ -1,11 +1,7 @@
 -- What a printed text says of a grid: it is the layout of a number and coefficients that decide as demand 3 says. The number 6 and the number 0 are printed
 -- of a file only where its settings pass, with the limit of 4,096 cells, and there is a value for each grid point.
-use Rattle.std.specs.Prelude.{◌≡◌, Bool, ℕ, zero, suc, eqb, length}
-use Rattle.std.proofs.Math.Path.{refl, ap}
-use Rattle.std.proofs.Common.{sym, ◌∙◌, eq-eqb, ne_eqb}
-use Rattle.std.proofs.Math.Bool.{true, false, cond}
-use mathlib.Core.List.{List, [], ◌∷◌}
-use Rattle.std.proofs.Math.Dec.{T}
+use Rattle.std.specs.Prelude.{◌≡◌, Bool, ℕ, zero, suc, eqb, length, refl, true, false, cond, List, [], ◌∷◌, T}
+use Rattle.std.proofs.Common.{ap, sym, ◌∙◌, eq-eqb, ne_eqb}
 use Rattle.meaning.specs.Tables.{tabulate}
 use Rattle.meaning.specs.Boxes.{cells}
 use Rattle.meaning.specs.Recovery.{accepts, answer}
@@ -73,10 +69,12 @@ module _ (h : Head) (vs : List ℕ) where
         number = bench_number (whole h vs);
         coefficients = box;
         accepted = λ z.
-            ap (λ (b : Bool). cond b (accepted_text (degrees_of h) (answer h.width (degrees_of h) vs)) (refused_text (bench_number (whole h vs)))) (eq-eqb _ _ z)
+            ap (λ (b : Bool). cond b (accepted_text (degrees_of h) (answer h.width (degrees_of h) vs)) (refused_text (bench_number (whole h vs))))
+            (eq-eqb _ _ z)
             ∙ ap (accepted_text (degrees_of h)) (sym (boxed z));
         refused = λ ne.
-            ap (λ (b : Bool). cond b (accepted_text (degrees_of h) (answer h.width (degrees_of h) vs)) (refused_text (bench_number (whole h vs)))) (ne_eqb _ _ ne);
+            ap (λ (b : Bool). cond b (accepted_text (degrees_of h) (answer h.width (degrees_of h) vs)) (refused_text (bench_number (whole h vs))))
+            (ne_eqb _ _ ne);
         decision =
             decides h.width (degrees_of h) vs (cause_of h vs)
             (passing_iff 4096 true h.total (fits_width h.width) h.support (degrees_of h) [] (λ n. (vs, n) ∷ []))

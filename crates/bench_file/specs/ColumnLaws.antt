@@ -1,9 +1,8 @@
 -- Reading column by column gives a number exactly on the text of that number.
 -- The columns read so far are the last columns of what they show, so that each byte of the text can be put back; and the columns of a number's text
 -- show its leading digits one after the other.
-use Rattle.std.specs.Prelude.{◌≡◌, refl, Bool, true, false, ◌&&◌, cond, List, [], ◌∷◌, ◌++◌, leb, ltb, eqb, length, Option, Some, None}
+use Rattle.std.specs.Prelude.{◌≡◌, refl, Bool, true, false, ◌&&◌, cond, List, [], ◌∷◌, ◌++◌, leb, ltb, eqb, length, Option, Some, None, ℕ, zero, suc, ◌+◌, ◌*◌, ◌-◌, ◌/◌, ◌%◌, ◌^◌, ◌≤◌, ◌<◌}
 use Rattle.std.proofs.Common.{sym, ◌∙◌, ap, ap₂, subst, append_assoc, append-nil, suc-ne-zero, arith, leb-true, ltb-true, eqb-true, le-leb, lt-ltb, ne_eqb}
-use Prim.Native.Nat.{ℕ, zero, suc, ◌+◌, ◌*◌, ◌-◌, ◌/◌, ◌%◌, ◌^◌, ◌≤◌, ◌<◌}
 use Rattle.std.proofs.Math.Nat.{pow-succ'}
 use Rattle.bench_file.specs.Text.{shown, columns, number}
 use Rattle.bench_file.specs.Columns.{with_last_digit, not_zero, with_column_of, and_then, with_columns}
@@ -129,7 +128,9 @@ unfolding with_columns and_then
 with_columns-append v [] ys = refl
 with_columns-append v (x ∷ xs) ys = go (λ n. with_columns-append n xs ys) (with_column_of v x)
   where
-    go : ((n : ℕ) → with_columns n (xs ++ ys) ≡ and_then (with_columns n xs) (λ w. with_columns w ys)) → (f : Option ℕ) → and_then f (λ w. with_columns w (xs ++ ys)) ≡ and_then (and_then f (λ w. with_columns w xs)) (λ w. with_columns w ys)
+    go : ((n : ℕ) → with_columns n (xs ++ ys) ≡ and_then (with_columns n xs) (λ w. with_columns w ys))
+        → (f : Option ℕ)
+        → and_then f (λ w. with_columns w (xs ++ ys)) ≡ and_then (and_then f (λ w. with_columns w xs)) (λ w. with_columns w ys)
     go rest (Some n) = rest n
     go rest None = refl
 

@@ -1,8 +1,6 @@
 -- The ends of the first two lines.
-use Rattle.std.specs.Prelude.{◌≡◌, ℕ, ◌+◌, ◌≤◌, ◌<◌, length, take, drop}
-use Rattle.std.proofs.Math.Path.{sym, ap, subst}
-use Rattle.std.proofs.Common.{◌∙◌, add_comm, arith, length-take, get_or-take, take-add, drop_at}
-use mathlib.Core.List.{List, [], ◌∷◌, ◌++◌, append_assoc, append-nil}
+use Rattle.std.specs.Prelude.{◌≡◌, ℕ, ◌+◌, ◌≤◌, ◌<◌, length, take, drop, List, [], ◌∷◌, ◌++◌}
+use Rattle.std.proofs.Common.{sym, ap, subst, ◌∙◌, add_comm, arith, length-take, get_or-take, take-add, drop_at, append_assoc, append-nil}
 use Rattle.meaning.specs.Tables.{at}
 use Rattle.bench_file.specs.Text.{columns, numbers, line}
 use Rattle.bench_file.specs.Layout.{Words, none, next, GoodHead, head_text}

@@ -1,11 +1,8 @@
 -- In the first two lines: unless the reader found them ill-formed, the bytes so far are the text of the numbers that it holds and of the columns of an
 -- open number.
-use Rattle.std.specs.Prelude.{◌≡◌, refl, Bool, true, false, ◌⊎◌, ℕ, ◌+◌, ◌^◌, ◌≤◌, ◌<◌, ltb, eqb, length, take, set, Option, Some, None}
-use Rattle.std.proofs.Math.Path.{sym, ap}
-use Rattle.std.proofs.Common.{◌∙◌, subst, inl, inr, ⊎_elim, add-one, arith, ltb-true, ltb-false, eqb-true, take-suc-set}
-use mathlib.Core.List.{List, [], ◌∷◌, ◌++◌, append_assoc, append-nil}
+use Rattle.std.specs.Prelude.{◌≡◌, refl, Bool, true, false, ◌⊎◌, ℕ, ◌+◌, ◌^◌, ◌≤◌, ◌<◌, ltb, eqb, length, take, set, Option, Some, None, List, [], ◌∷◌, ◌++◌}
+use Rattle.std.proofs.Common.{sym, ap, ◌∙◌, subst, inl, inr, ⊎_elim, add-one, arith, ltb-true, ltb-false, eqb-true, take-suc-set, append_assoc, append-nil, length-append, length-set}
 use Rattle.std.proofs.lemmas.Bool.{eqb-false}
-use Rattle.std.proofs.Math.ListN.{length-append, length-set}
 use Rattle.bench_file.specs.Text.{columns, number, numbers}
 use Rattle.bench_file.specs.Columns.{with_last_digit, with_column_of}
 use Rattle.bench_file.specs.ColumnLaws.{digit_of, column_of, column_text, column_small, digit_text}

@@ -163,7 +163,9 @@ exponents_next out next d (suc k) rest h =
     let down : suc k - 1 ≡ k = omega arith in
     rw (down, add-one d)
     (ap (sets out next) (digits_next d k rest)
-    ∙ sym (sets_then (number (rest % suc d)) (numbers (digits (replicate k d) (rest / suc d))) out next (next + 21) (ap (next +◌) (sym (length-number (rest % suc d))))))
+    ∙ sym
+    (sets_then (number (rest % suc d)) (numbers (digits (replicate k d) (rest / suc d))) out next (next + 21)
+    (ap (next +◌) (sym (length-number (rest % suc d))))))
 
 pub exponents_end : (out : List ℕ) (next d left rest : ℕ) → left ≤ 0 → sets out next (numbers (digits (replicate left d) rest)) ≡ out
 unfolding digits numbers

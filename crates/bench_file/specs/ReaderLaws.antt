@@ -1,10 +1,8 @@
 -- What the reader finds of a whole input is what its bytes say: `read_as`; first lines that it has found ill-formed are so whatever follows: `ill_head_stays`.
 -- A text of the layout leads the reader to what it says (the runs), and what the reader holds is the text of the bytes that it was fed (its standing);
 -- where it found an ill-formed line no text of the layout can have been fed, since such a text would have led elsewhere.
-use Rattle.std.specs.Prelude.{◌≡◌, Bool, true, false, ℕ, suc, ◌+◌, ◌≤◌, ◌<◌, min, length, set, Option, Some, None, Ok, Err, ⊤, Result}
-use Rattle.std.proofs.Math.Path.{refl, ap, subst}
-use Rattle.std.proofs.Common.{sym, ◌∙◌, ap₂, ⊎_elim, add-one, arith, eq-eqb, ne_eqb, lt-ltb, le-ltb}
-use mathlib.Core.List.{List, [], ◌∷◌, ◌++◌, append_assoc, append-nil}
+use Rattle.std.specs.Prelude.{◌≡◌, Bool, true, false, ℕ, suc, ◌+◌, ◌≤◌, ◌<◌, min, length, set, Option, Some, None, Ok, Err, ⊤, Result, refl, List, [], ◌∷◌, ◌++◌}
+use Rattle.std.proofs.Common.{ap, subst, sym, ◌∙◌, ap₂, ⊎_elim, add-one, arith, eq-eqb, ne_eqb, lt-ltb, le-ltb, append_assoc, append-nil}
 use Rattle.std.proofs.lemmas.List.Edits.{sets}
 use Rattle.std.proofs.Math.Seq.{set_out}
 use Rattle.bench_file.specs.Text.{columns, number}

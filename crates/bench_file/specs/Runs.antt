@@ -1,12 +1,8 @@
 -- The reader on a text of the layout. Fed a number it takes that number in; fed the two first lines it holds them; fed values it stores and counts
 -- them. Numbers first, for any stage that takes columns and a last column in.
-use Rattle.std.specs.Prelude.{◌≡◌, refl, length, drop, set, replicate, Some}
-use Rattle.std.proofs.Common.{sym, ◌∙◌, add-zero, add-one, length-set, take_at}
-use Rattle.std.proofs.Math.Path.{ap, ap₂}
-use mathlib.Core.List.{List, [], ◌∷◌, ◌++◌, append-nil}
-use Prim.Native.Nat.{ℕ, zero, suc, ◌+◌, ◌/◌, ◌%◌, ◌^◌, ◌≤◌, ◌<◌}
+use Rattle.std.specs.Prelude.{◌≡◌, refl, length, drop, set, replicate, Some, List, [], ◌∷◌, ◌++◌, ℕ, zero, suc, ◌+◌, ◌/◌, ◌%◌, ◌^◌, ◌≤◌, ◌<◌}
+use Rattle.std.proofs.Common.{sym, ◌∙◌, add-zero, add-one, length-set, take_at, ap, ap₂, append-nil, arith}
 use Rattle.std.proofs.Math.Nat.{pow-succ'}
-use native.Mathlib.Omega.{arith}
 use Rattle.std.proofs.lemmas.List.Edits.{sets, sets-eq}
 use Rattle.meaning.specs.Tables.{at}
 use Rattle.bench_file.specs.Text.{shown, columns, number, numbers, line}

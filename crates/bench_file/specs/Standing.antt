@@ -1,7 +1,6 @@
 -- What the reader knows of the bytes so far, at every stage, and that every byte keeps it.
 use Rattle.std.specs.Prelude.{◌≡◌, refl, List, [], ◌∷◌, ◌++◌, ℕ, ◌+◌, ◌≤◌, ◌<◌, length, set}
-use Rattle.std.proofs.Common.{sym, ◌∙◌, ap, append_assoc, append-nil, ⊎_elim, arith}
-use Rattle.std.proofs.Math.Path.{subst}
+use Rattle.std.proofs.Common.{sym, ◌∙◌, ap, append_assoc, append-nil, ⊎_elim, arith, subst}
 use Rattle.meaning.specs.Tables.{at}
 use Rattle.bench_file.specs.Text.{columns, number, numbers, line}
 use Rattle.bench_file.specs.Layout.{Words, none, head_text, values_text}

@@ -1,5 +1,6 @@
 -- The reader: what one byte makes of it, and what it makes of a lent table of values.
-use Rattle.std.specs.Prelude.{ℕ, ◌+◌, Bool, ◌&&◌, cond, List, [], ◌∷◌, leb, ltb, eqb, length, take, drop, set, replicate, Option, Some, None, Ok, Err, ⊤, Result}
+use Rattle.std.specs.Prelude.{ℕ, ◌+◌, Bool, ◌&&◌, cond, List, [], ◌∷◌, leb, ltb, eqb, length, take, drop, set, replicate, Option, Some, None, Ok, Err, ⊤}
+use Rattle.std.specs.Prelude.{Result}
 use Rattle.meaning.specs.Tables.{at}
 use Rattle.bench_file.specs.Columns.{with_last_digit, with_column_of}
 use Rattle.bench_file.specs.Layout.{Head}

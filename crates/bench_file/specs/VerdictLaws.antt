@@ -1,7 +1,6 @@
 -- The program's number is the layout's, and narrowing changes no number of the settings.
 use Rattle.std.specs.Prelude.{◌≡◌, refl, Bool, true, false, cond, List, ℕ, zero, suc, ◌≤◌, ◌<◌, eqb, length, Ok, Err, ⊤, Result}
-use Rattle.std.proofs.Common.{sym, ◌∙◌, ⊎_elim, arith, lt-ltb}
-use Rattle.std.proofs.Math.Path.{ap, ap₂}
+use Rattle.std.proofs.Common.{sym, ◌∙◌, ⊎_elim, arith, lt-ltb, ap, ap₂}
 use Rattle.meaning.specs.Boxes.{cells}
 use Rattle.meaning.specs.Settings.{fits_width, limited_number, first}
 use Rattle.meaning.specs.Recovery.{accepts}

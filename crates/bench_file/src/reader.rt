@@ -3,7 +3,8 @@
 ghost use Rattle.std.specs.Prelude.{◌≡◌, ◌<◌, cond, ltb};
 ghost use Rattle.answers.specs.declared.Refusal.{Refusal};
 ghost use Rattle.bench_file.specs.Columns.{with_last_digit, with_column_of};
-ghost use Rattle.bench_file.specs.Steps.{none_read, staged, opened, with_head, head_column_of, first_byte_of, second_byte_of, with_value_of, value_byte_of, state, line_end, step, fed, reading_of};
+ghost use Rattle.bench_file.specs.Steps.{none_read, staged, opened, with_head, head_column_of, first_byte_of, second_byte_of, with_value_of, value_byte_of};
+ghost use Rattle.bench_file.specs.Steps.{state, line_end, step, fed, reading_of};
 
 use crate::number;
 use answers::Refusal;

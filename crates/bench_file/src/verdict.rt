@@ -28,7 +28,8 @@ pub fn verdict_of(
     recovered
 }
 
-// A number of 64 bits as one of 32 (and below as one of 8: one function for both would need a trait for the largest number of a type, and be no plainer): the largest where it is larger. A width or a total so large is refused either way.
+// A number of 64 bits as one of 32: the largest where it is larger. A width or a total so large is refused either way. Below the same for 8 bits: one function
+// for both types would need a trait that says which numbers `try_from` takes and which is the largest, and be no plainer.
 pub fn narrow(value: u64) -> u32
     ensures { result ≡ narrowed value }
 {

@@ -1,8 +1,9 @@
 -- What is done at one cell (`Done`), by each job: what a mask keeps of a number or a sum, what is over a bound, and in which bits two numbers differ.
 use Rattle.std.proofs.Common.{◌≡◌, ℕ, ◌+◌, ◌-◌, ◌%◌, ◌^◌, ◌<◌, ◌≤◌, Bool, true, false, ◌&&◌, eqb, ltb, List, length, set, sym, refl, ap, ◌∙◌, mod-lt, mod-eq_of_lt, lt_of_not-le, arith, pow_pos, le-ltb, lt-ltb, eq-eqb, ne_eqb, eqb-true, get_or-set_same, get_or-set_other, ◌==◌, nat_lt}
-use native.Mathlib.Decide.{dec_le}
+use Rattle.std.specs.Prelude.{bit_and, bit_or, bit_xor}
+use Rattle.std.proofs.Math.Decide.{dec_le}
+use Rattle.std.specs.Int.Bits.{and_mask, or_add_and, xor_add_and, xor_self, xor_mod, and_le_l, and_le_r}
 use borrow.Author.Tests.{eqb-false}
-use lib.Bits.{bit_and, bit_or, bit_xor, and_mask, or_add_and, xor_add_and, xor_self, xor_mod, and_le_l, and_le_r}
 use Rattle.meaning.specs.Tables.{at}
 use Rattle.theory.specs.Words.{low_bits}
 use Rattle.box_rows.specs.Jobs.{Done}

@@ -1,16 +1,16 @@
 -- The laws of a walk over cells (`Walked`): one cell more, one part more, and the sub-boxes of the last variable one after the other.
-use Rattle.std.proofs.Common.{◌≡◌, ◌≢◌, ℕ, zero, suc, ◌+◌, ◌-◌, ◌*◌, ◌<◌, ◌≤◌, ◌⊎◌, inl, inr, Bool, true, false, ◌&&◌, List, length, sym, refl, ap, ◌∙◌, ap₂, add-one, arith, true≢false, below_more, ◌==◌, subst, zero-add, zero-mul, take, take-take, length-take, suc-ne-zero, mod-eq_of_lt, ◌^◌, ◌%◌, [], ◌∷◌, mul-le-mul_right, le_of_suc-le-suc}
+use Rattle.std.proofs.Common.{◌≡◌, ◌≢◌, ℕ, zero, suc, ◌+◌, ◌-◌, ◌*◌, ◌<◌, ◌≤◌, ◌⊎◌, inl, inr, Bool, true, false, ◌&&◌, List, length, sym, refl, ap, ◌∙◌, ap₂, add-one, arith, true≢false, below_more, ◌==◌, subst, zero-add, zero-mul, suc-ne-zero, mod-eq_of_lt, ◌^◌, ◌%◌, [], ◌∷◌, mul-le-mul_right, le_of_suc-le-suc}
 use Rattle.std.proofs.Math.Bool.{and_assoc, and-true}
 use Rattle.std.proofs.Math.Nat.{suc_inj}
-use native.Mathlib.Decide.{dec_le}
-use lib.Bits.{bit_or}
+use Rattle.std.proofs.Math.Decide.{dec_le}
+use Rattle.std.specs.Int.Bits.{bit_or}
 use Rattle.meaning.specs.Tables.{at}
 use Rattle.meaning.specs.Factorials.{factorial, twos}
 use Rattle.meaning.specs.Boxes.{cells, digits}
 use Rattle.meaning.specs.Values.{weight, bound}
 use Rattle.meaning.specs.Recovery.{every}
 use Rattle.theory.specs.Every.{every_cong, Passed, passed_start, passed_fails, passed_next, passed_done}
-use Rattle.theory.specs.LastVariable.{others, final, bound_last}
+use Rattle.theory.specs.LastVariable.{others, final, bound_last, length-others}
 use Rattle.box_rows.specs.Jobs.{Done, Walked, AllAtHand}
 use Rattle.box_rows.specs.Walks.{Walk, walk_next, walk_all, walk_size}
 use Rattle.box_rows.specs.Lines.{LineBits, line_full, line_bits}
@@ -150,9 +150,6 @@ module _ {left : ℕ → ℕ → ℕ → ℕ} {passes : ℕ → ℕ → Bool} {w
       }
 
   module _ {t : List ℕ} {size bits e from : ℕ} (r : Turns left passes w ds first n t₀ t size bits e from) where
-    pub turns_few : bits ≤ w
-    turns_few = omega (arith, r.bits)
-
     module _ (h : e < suc (final ds)) where
       pub turns_fit : e * size + size ≤ n
       turns_fit = omega (arith, walk_all r.walk, mul-le-mul_right size h)
@@ -220,18 +217,16 @@ no_bits w es z =
 pub second : (ds : List ℕ) {e : ℕ} → length ds ≡ 2 → e < at ds 1 + 1 → e < suc (final ds)
 second ds two h = rw two (omega arith)
 
+-- and the sub-boxes are lines
+pub turns_line : {left : ℕ → ℕ → ℕ → ℕ} {passes : ℕ → ℕ → Bool} {w : ℕ} {ds : List ℕ} {first n : ℕ} {t₀ t : List ℕ} {size bits e from : ℕ}
+    → Turns left passes w ds first n t₀ t size bits e from → length ds ≡ 2
+    → (i : ℕ) → i < size → 2 ^ (bits - twos (factorial i)) ≡ bound bits (digits (others ds) i)
+turns_line {ds = ds} {bits = bits} r two i h =
+    let one : length (others ds) ≡ 1 = length-others ds (omega (arith, two)) ∙ omega (arith, two) in
+    line_bounds bits (others ds) one i (rw r.walk.sized at h)
+
 -- the cells of a part are at hand where those of the whole are
 pub hand_part : (p : ℕ → Type 0) {first n from k : ℕ} → AllAtHand p first n → (from + k ≤ first + n) × (first ≤ from) → AllAtHand p from k
 hand_part p {first} {n} {from} {k} all within i h =
     let place : first + (from - first + i) ≡ from + i = omega arith in
     subst p place (all (from - first + i) (omega arith))
-
--- ---- rows
-
-module _ (row ds : List ℕ) (begins : row ≡ take (length row) ds) where
-  pub begins_short : length row ≤ length ds
-  begins_short = omega (arith, ap length begins, length-take (length row) ds)
-
-  -- of a box of more rows, the sub-boxes begin with the same
-  pub begins_others : (length ds ≢ length row) → row ≡ take (length row) (others ds)
-  begins_others h = begins ∙ sym (take-take (length row) (length ds - 1) ds (omega (arith, begins_short, h)))

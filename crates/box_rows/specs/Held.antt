@@ -40,5 +40,6 @@ module _ (ds : List ℕ) (w : ℕ) (small : cells ds ≤ 65536) (width : w ≤ 6
       → r ≡ (length b == length a && holds ds (length a) && every (cells ds) (is_equal (min w 64) ds a b)) → r ≡ every (cells ds) (is_equal w ds a b)
   agree_held a b r x y e =
       e
-      ∙ ap₂ (λ (p q : Bool). p && q && every (cells ds) (is_equal (min w 64) ds a b)) (eq-eqb (length b) (length a) (y ∙ sym x)) (holds_of ds (length a) x small)
+      ∙ ap₂ (λ (p q : Bool). p && q && every (cells ds) (is_equal (min w 64) ds a b)) (eq-eqb (length b) (length a) (y ∙ sym x))
+      (holds_of ds (length a) x small)
       ∙ ap (λ (k : ℕ). every (cells ds) (is_equal k ds a b)) (min-eq_left width)

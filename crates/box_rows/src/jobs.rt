@@ -1,5 +1,5 @@
-// What is done at the cells of boxes: sum, reduction, and the tests against the bounds. A test writes no table. Jobs are copied, and
-// neither compared nor printed.
+// What is done at the cells of boxes: sum, reduction, and the tests against the bounds. A test writes no table. A job that holds tables is copied and no more,
+// since to compare or print it would go over all their numbers.
 ghost use Rattle.std.specs.Prelude.{◌+◌, ◌%◌, ◌<◌, true, length, ◌==◌, nat_lt};
 ghost use Rattle.meaning.specs.Tables.{at};
 
@@ -26,7 +26,7 @@ impl Job for Sum<'_> {
 }
 
 // Every coefficient taken modulo its bound, in place.
-#[derive(Clone, Copy)]
+#[derive(Clone, Copy, Debug, PartialEq, Eq)]
 pub(crate) struct Reduction;
 
 impl Job for Reduction {

@@ -1,7 +1,8 @@
 // The walk over the cells of a box, once for all that is done at cells (`Job`): line by line, or row by row where rows pay. From one entry of a line to the
-// next the mask loses the twos in its number; the masks of the cells of a row are laid out once. Loops copy the job and the place, so that the compiler need not
-// read them again behind each number that is written. The job and its written table are lent side by side: a struct that held both would need a clause in
-// every function that its table stays the same one, and that all cells of a part are at hand speaks of both.
+// next the mask loses the twos in its number; the masks of the cells of a row are laid out once. Loops copy the job and the place, so that the compiler need
+// not read them again behind each number that is written. The job and its written table are lent side by side: a struct that held both would need a clause in
+// every function that its table stays the same one, and that all cells of a part are at hand speaks of both. The part does not hold the job either, which
+// each sub-box would copy.
 ghost use Rattle.std.specs.Prelude.{◌≡◌, ℕ, ◌+◌, ◌-◌, ◌^◌, ◌<◌, ◌≤◌, Bool, length, take};
 ghost use Rattle.meaning.specs.Factorials.{factorial, twos};
 ghost use Rattle.meaning.specs.Boxes.{cells, digits};
@@ -22,7 +23,8 @@ pub(crate) trait Job: Copy {
     // Whether cell i passes with bound m.
     ghost passes: { Self → ℕ → ℕ → Bool };
 
-    // Does it at cell i, whose bound is one more than the mask. The result is what fails the test, 0 where nothing does.
+    // Does it at cell i, whose bound is one more than the mask. The result is what fails the test, 0 where nothing does. It takes three parameters, since a
+    // struct of them would be made anew for each cell.
     fn cell(&self, table: &mut [u64], i: usize, mask: u64) -> u64
         requires { at_hand self.now (length table.old) i }
         ensures { (k : ℕ) → k ≤ 64 → mask ≡ 2 ^ k - 1
@@ -167,6 +169,7 @@ fn by_rows<J: Job>(job: &J, table: &mut [u64], part: &Part) -> bool
     ensures { Walked (J.left job.now) (J.passes job.now) (λ n. bound part.now.bits (digits part.now.degrees.now n))
         part.now.from part.now.count table.old table.new result }
 {
+    // There is no heap: room for the largest row, whose cells are lent.
     let mut masks = [0u64; 256];
     let first = layout::lay_out(&mut masks, part.degrees).unwrap();
     let rows = Rows {
@@ -188,10 +191,9 @@ pub(crate) fn whole<J: Job>(job: &J, table: &mut [u64], part: &Part) -> bool
     if layout::rows_pay(part.count, part.degrees) {
         return by_rows(job, table, part);
     }
-    let alone = [0xffff_ffff_ffff_ffffu64; 1];
     let rows = Rows {
         row: &part.degrees[..0],
-        masks: &alone,
+        masks: &[0xffff_ffff_ffff_ffff],
     };
     boxes(job, table, part, &rows)
 }

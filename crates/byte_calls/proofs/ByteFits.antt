@@ -1,15 +1,6 @@
 -- What the fit on tables of bytes answers and leaves, in each of its cases.
-use mathlib.Core.Path.{◌≡◌, refl, sym, ◌∙◌, ap, ap₂, subst}
-use mathlib.Core.Bool.{Bool, true, false, ◌&&◌, cond}
-use mathlib.Core.List.{List}
-use Prim.Native.Nat.{ℕ, pred, ◌+◌, ◌*◌, ◌≤◌, ◌<◌, min}
-use native.Mathlib.Nat.{suc-ne-zero, le_trans, le_of_eq, le-mul_of_pos_right, min-eq_left}
-use native.Mathlib.Omega.{arith}
-use lib.Dec.{ltb, eqb}
-use lib.ListN.{length}
-use denote.Ref.{Bor}
-use borrow.Author.Tests.{eq-eqb, eqb-true, lt-ltb, le-ltb, ltb-true}
-use Rattle.std.specs.Prelude.{Result, Ok, Err}
+use Rattle.std.proofs.Common.{take, ◌≡◌, refl, sym, ◌∙◌, ap, ap₂, subst, Bool, true, false, ◌&&◌, cond, List, ℕ, pred, ◌+◌, ◌*◌, ◌≤◌, ◌<◌, min, suc-ne-zero, le_trans, le_of_eq, le-mul_of_pos_right, arith, ltb, eqb, length, Bor, eq-eqb, eqb-true, lt-ltb, le-ltb, ltb-true, Result, Ok, Err}
+use Rattle.std.proofs.Math.Nat.{min-eq_left}
 use Rattle.meaning.specs.Tables.{tabulate}
 use Rattle.meaning.specs.Boxes.{cells}
 use Rattle.meaning.specs.Replies.{Reply, refused}
@@ -35,20 +26,30 @@ use Rattle.byte_calls.specs.Bytes.{decoded, encoded}
 use Rattle.byte_calls.specs.Forms.{zeros, byte_degrees, fit_settings_on, byte_grid, fit_held_by, fit_lent}
 use Rattle.byte_calls.specs.ByteLaws.{length-decoded}
 use Rattle.byte_calls.specs.Calls.{holds, fit_bytes_cause, fit_bytes_reply, fit_bytes_left}
-use Rattle.byte_calls.specs.TableLaws.{Boxed, before, boxed, unboxed, length-zeros}
+use Rattle.byte_calls.specs.TableLaws.{Held, Boxed, before, boxed, unboxed, length-zeros}
 use Rattle.byte_calls.specs.FitDemands.{fits_of_bytes}
 
 -- the support's bytes and the settings of the grid pass, or are turned down
-module _ (s : ByteFitSettings) {g : ByteSettings} (is : g ≡ byte_grid s) {answer : Result ℕ Refusal} (says : said answer ≡ reply (before false g) (cells (byte_degrees g))) where
+module _ (s : ByteFitSettings) {g : ByteSettings} (is : g ≡ byte_grid s) {answer : Result ℕ Refusal}
+    (says : said answer ≡ reply (before false g) (cells (byte_degrees g))) where
   pub grid_boxed : {n : ℕ} → answer ≡ Ok n → Boxed false (byte_grid s) n
   grid_boxed {n} e = subst (λ (g : ByteSettings). Boxed false g n) is (boxed false g says e)
 
   pub grid_unboxed : {r : Refusal} → answer ≡ Err r → before false (byte_grid s) ≡ code r
   grid_unboxed e = sym (ap (before false) is) ∙ unboxed false g says e
 
+-- the places hold the support's indices
+pub grid_held : (s : ByteFitSettings) (places : List ℕ) {g : ByteSettings} → g ≡ byte_grid s
+    → (Held g.support.now g.count → take g.count places ≡ decoded g.support.now) → Held s.support.now s.count → take s.count places ≡ decoded s.support.now
+grid_held s places is leaves h = (rw is at leaves) h
+
 module _ (s : ByteFitSettings) (weights targets out : List ℕ) where
   abbrev asked : Fit
   asked = fit_held_by s weights targets
+
+  -- of which the room looks at the settings alone
+  abbrev sizes_asked : Fit
+  sizes_asked = fit_settings s.total s.bitwidth (decoded s.support.now) s.max_degree s.grid_degree
 
   abbrev entries : ℕ
   entries = fit_rows asked * length (fit_columns_of asked)
@@ -56,13 +57,18 @@ module _ (s : ByteFitSettings) (weights targets out : List ℕ) where
   abbrev lengths : Bool
   lengths = holds weights (fit_rows asked) && holds targets (fit_rows asked) && holds out (cells asked.degrees)
 
+  -- the call on the tables that the bytes hold, with zeros lent
+  abbrev fit_zeros : ℕ → ℕ → ℕ → Fit
+  fit_zeros size rows count =
+      fit_of s.total s.bitwidth (decoded s.support.now) s.max_degree s.grid_degree (decoded weights) (decoded targets) (zeros size) (zeros rows) (zeros count)
+
   -- what is returned and left, and what they promise
   abbrev Said : Reply → List ℕ → Type 0
   Said r t =
       (r ≡ fit_bytes_reply s.count s.support.now weights targets out asked)
       × ((t ≡ fit_bytes_left s.count s.support.now weights targets out asked)
-      × Fits s.bitwidth (cube (decoded s.support.now) (min s.max_degree s.grid_degree)) (cube (decoded s.support.now) s.grid_degree) s.max_degree (decoded weights)
-      (decoded targets) r.number r.value (decoded t))
+      × Fits s.bitwidth (cube (decoded s.support.now) (min s.max_degree s.grid_degree)) (cube (decoded s.support.now) s.grid_degree) s.max_degree
+      (decoded weights) (decoded targets) r.number r.value (decoded t))
 
   promised : {r : Reply} {t : List ℕ} → (r ≡ fit_bytes_reply s.count s.support.now weights targets out asked)
       × (t ≡ fit_bytes_left s.count s.support.now weights targets out asked) → Said r t
@@ -77,20 +83,22 @@ module _ (s : ByteFitSettings) (weights targets out : List ℕ) where
   unfolding fit_bytes_cause
   fit_turned r e = turned r (first_code r _ e)
 
+  -- they pass, and the rows, the entries and the cells are counted, of a matrix that is small enough: the tables that are lent on those settings
+  pub record Counted (on : FitSettings) (needs : FitRoom) (count : ℕ) : Type 0 where
+    pub points : ℕ
+    pub boxed : Boxed false (byte_grid s) points
+    pub row_count : needs.rows ≡ fit_rows asked
+    pub entry_count : needs.entries ≡ entries
+    pub cell_count : count ≡ cells asked.degrees
+    pub small : needs.entries ≤ byte_limit
+    pub lent : fit_lent on weights targets needs.entries needs.rows count ≡ fit_zeros needs.entries needs.rows count
+
   module _ {rows : ℕ} (b : Boxed false (byte_grid s) rows) where
     -- what is left where they pass
     cause : (x : Bool) → ltb byte_limit entries ≡ x → (y : Bool) → lengths ≡ y
         → fit_bytes_cause s.count s.support.now weights targets out asked ≡ first (cond x 8 0) (cond y 0 9)
     unfolding fit_bytes_cause
     cause x e y q = ap₂ first b.number (ap₂ (λ (x y : Bool). first (cond x 8 0) (cond y 0 9)) e q)
-
-    -- a matrix that is too large
-    pub fit_large_lem : byte_limit < entries → Said (refused 8) out
-    fit_large_lem h = turned Refusal.TooLarge (cause true (lt-ltb byte_limit entries h) lengths refl)
-
-    -- a wrong length
-    pub fit-lengths : entries ≤ byte_limit → lengths ≡ false → Said (refused 9) out
-    fit-lengths h e = turned Refusal.WrongLength (cause false (le-ltb byte_limit entries h) false e)
 
     -- the cells of the answer's box are no more than the rows, and these no more than the entries, since there is a column
     box_le_rows : cells asked.degrees ≤ fit_rows asked
@@ -104,13 +112,13 @@ module _ (s : ByteFitSettings) (weights targets out : List ℕ) where
 
     -- the settings on the indices that the support's bytes hold
     module _ {on : FitSettings} {indices : Bor (List ℕ)} (is : on ≡ fit_settings_on s indices) (held : indices.now ≡ decoded s.support.now) where
-      sized : fit_room_lem (fit_asked on) ≡ fit_room_lem (fit_settings s.total s.bitwidth (decoded s.support.now) s.max_degree s.grid_degree)
+      sized : fit_room_lem (fit_asked on) ≡ fit_room_lem sizes_asked
       sized =
           ap (λ (o : FitSettings). fit_room_lem (fit_asked o)) is
           ∙ ap (λ (t : List ℕ). fit_room_lem (fit_settings s.total s.bitwidth t s.max_degree s.grid_degree)) held
 
       -- the degrees of the answer's box
-      pub degrees_held : {a : Settings} {ds : List ℕ} → a ≡ answer_of on → (length a.support.now ≤ 20 → ds ≡ degrees_of a) → ds ≡ asked.degrees
+      degrees_held : {a : Settings} {ds : List ℕ} → a ≡ answer_of on → (length a.support.now ≤ 20 → ds ≡ degrees_of a) → ds ≡ asked.degrees
       degrees_held {a} {ds} e all =
           let box : List ℕ → List ℕ = λ t. cube t (min s.max_degree s.grid_degree) in
           let lent = subst (λ (a : Settings). length a.support.now ≤ 20 → ds ≡ degrees_of a) (e ∙ ap answer_of is) all in
@@ -125,7 +133,7 @@ module _ (s : ByteFitSettings) (weights targets out : List ℕ) where
             told : cond (ltb 65536 entries) 8 0 ≡ code r
             told =
                 sym (ap (λ (n : ℕ). first n (cond (ltb 65536 entries) 8 0)) b.settles.passes)
-                ∙ told_turned (fit_settings s.total s.bitwidth (decoded s.support.now) s.max_degree s.grid_degree) r (sym (ap fit_room_said e) ∙ says ∙ sized)
+                ∙ told_turned sizes_asked r (sym (ap fit_room_said e) ∙ says ∙ sized)
 
             by_cases : (x : Bool) → ltb 65536 entries ≡ x → Said (refused (code r)) out
             by_cases true q =
@@ -134,69 +142,85 @@ module _ (s : ByteFitSettings) (weights targets out : List ℕ) where
             by_cases false q = absurd (suc-ne-zero (pred (code r)) (sym (code-suc r) ∙ sym told ∙ ap (λ (x : Bool). cond x 8 0) q))
 
         -- and the rows and entries else
-        pub fit_sized : {needs : FitRoom} → answer ≡ Ok needs → (needs.rows ≡ fit_rows asked) × (needs.entries ≡ entries)
+        fit_sized : {needs : FitRoom} → answer ≡ Ok needs → (needs.rows ≡ fit_rows asked) × (needs.entries ≡ entries)
         fit_sized e =
-            let told = told_counts (fit_settings s.total s.bitwidth (decoded s.support.now) s.max_degree s.grid_degree) (sym (ap fit_room_said e) ∙ says ∙ sized) in
+            let told = told_counts sizes_asked (sym (ap fit_room_said e) ∙ says ∙ sized) in
             (told.row_count, told.entry_count)
 
-      -- the matrix is small enough, and so many cells are counted
-      module _ {points size : ℕ} (sizes : (points ≡ fit_rows asked) × (size ≡ entries)) (small : size ≤ byte_limit) {count : ℕ} {ds : List ℕ}
-          (lent : ds ≡ asked.degrees) (counts : count ≡ min (cells ds) (byte_limit + 1)) where
-        small_matrix : entries ≤ byte_limit
-        small_matrix = le_trans (le_of_eq (sym sizes.1)) small
+        -- a matrix that is too large
+        pub fit_large_lem : {needs : FitRoom} → answer ≡ Ok needs → byte_limit < needs.entries → Said (refused 8) out
+        fit_large_lem e h = turned Refusal.TooLarge (cause true (lt-ltb byte_limit entries (omega (arith, h, (fit_sized e).1))) lengths refl)
 
-        counted : count ≡ cells asked.degrees
-        counted = counts ∙ ap (λ (l : List ℕ). min (cells l) (byte_limit + 1)) lent ∙ min-eq_left (omega (arith, box_le_rows, rows_le, small_matrix))
+        pub counted : {needs : FitRoom} → answer ≡ Ok needs → needs.entries ≤ byte_limit → {a : Settings} {ds ls : List ℕ} {count : ℕ}
+            → a ≡ answer_of on → (length a.support.now ≤ 20 → ds ≡ degrees_of a) → ls ≡ ds → count ≡ min (cells ls) (byte_limit + 1)
+            → Counted on needs count
+        counted {needs} e small {count = count} is_answer all same counts =
+            let sizes = fit_sized e in
+            let box = same ∙ degrees_held is_answer all in
+            record {
+              points = rows;
+              boxed = b;
+              row_count = sizes.0;
+              entry_count = sizes.1;
+              cell_count =
+                  counts ∙ ap (λ (l : List ℕ). min (cells l) (byte_limit + 1)) box
+                  ∙ min-eq_left (omega (arith, box_le_rows, rows_le, sizes.1, small));
+              small = small;
+              lent =
+                  ap (λ (o : FitSettings). fit_lent o weights targets needs.entries needs.rows count) is
+                  ∙ ap (λ (t : List ℕ). fit_of s.total s.bitwidth t s.max_degree s.grid_degree (decoded weights) (decoded targets) (zeros needs.entries)
+                  (zeros needs.rows) (zeros count)) held;
+            }
 
-        -- what is asked of each table's room
-        pub fit_fits : (points ≤ size) × (count ≤ size)
-        fit_fits = (omega (arith, sizes.0, sizes.1, rows_le), omega (arith, counted, box_le_rows, rows_le, sizes.1))
+  module _ {on : FitSettings} {needs : FitRoom} {count : ℕ} (n : Counted on needs count) where
+    small_matrix : entries ≤ byte_limit
+    small_matrix = le_trans (le_of_eq (sym n.entry_count)) n.small
 
-        tested : (holds weights points && holds targets points && holds out count) ≡ lengths
-        tested = ap₂ (λ (i j : ℕ). holds weights i && holds targets i && holds out j) sizes.0 counted
+    -- what is asked of each table's room
+    pub fit_fits : (needs.rows ≤ needs.entries) × (count ≤ needs.entries)
+    fit_fits = (
+      omega (arith, n.row_count, n.entry_count, rows_le n.boxed),
+      omega (arith, n.cell_count, box_le_rows n.boxed, rows_le n.boxed, n.entry_count),
+    )
 
-        -- a wrong length
-        pub fit_uneven : (holds weights points && holds targets points && holds out count) ≡ false → Said (refused 9) out
-        fit_uneven e = fit-lengths small_matrix (sym tested ∙ e)
+    abbrev exact : Bool
+    exact = holds weights needs.rows && holds targets needs.rows && holds out count
 
-        -- the call on the tables
-        module _ (hw : holds weights points ≡ true) (ht : holds targets points ≡ true) (ho : holds out count ≡ true) where
-          abbrev lent_fit : Fit
-          lent_fit =
-              fit_of s.total s.bitwidth (decoded s.support.now) s.max_degree s.grid_degree (decoded weights) (decoded targets) (zeros size)
-              (zeros points) (zeros count)
+    tested : exact ≡ lengths
+    tested = ap₂ (λ (i j : ℕ). holds weights i && holds targets i && holds out j) n.row_count n.cell_count
 
-          long : (bytes : List ℕ) → holds bytes points ≡ true → eqb (length (decoded bytes)) (fit_rows asked) ≡ true
-          long bytes e = eq-eqb _ _ (length-decoded bytes points (eqb-true _ _ e) ∙ sizes.0)
+    -- a wrong length
+    pub fit_uneven : exact ≡ false → Said (refused 9) out
+    fit_uneven e =
+        turned Refusal.WrongLength (cause n.boxed false (le-ltb byte_limit entries small_matrix) false (sym tested ∙ e))
 
-          lent-cause : fit_cause lent_fit ≡ 0
-          unfolding fit_cause
-          lent-cause =
-              ap₂ first (ap₂ first b.settles.passes (ap (λ (x : Bool). cond x 8 0) (le-ltb 65536 entries (omega (arith, small_matrix)))))
-              (ap (λ (y : Bool). cond y 0 9)
-              (ap₂ ◌&&◌ (ap₂ ◌&&◌ (ap₂ ◌&&◌ (ap₂ ◌&&◌ (long weights hw) (long targets ht)) (eq-eqb _ _ (length-zeros _ ∙ sizes.1)))
-              (eq-eqb _ _ (length-zeros _ ∙ sizes.0))) (eq-eqb _ _ (length-zeros _ ∙ counted))))
+    -- the call on the tables
+    module _ (hw : holds weights needs.rows ≡ true) (ht : holds targets needs.rows ≡ true) (ho : holds out count ≡ true) where
+      long : (bytes : List ℕ) → holds bytes needs.rows ≡ true → eqb (length (decoded bytes)) (fit_rows asked) ≡ true
+      long bytes e = eq-eqb _ _ (length-decoded bytes needs.rows (eqb-true _ _ e) ∙ n.row_count)
 
-          held-cause : fit_bytes_cause s.count s.support.now weights targets out asked ≡ 0
-          held-cause = cause false (le-ltb byte_limit entries small_matrix) true (sym tested ∙ ap₂ ◌&&◌ (ap₂ ◌&&◌ hw ht) ho)
+      lent-cause : fit_cause (fit_zeros needs.entries needs.rows count) ≡ 0
+      unfolding fit_cause
+      lent-cause =
+          ap₂ first (ap₂ first n.boxed.settles.passes (ap (λ (x : Bool). cond x 8 0) (le-ltb 65536 entries (omega (arith, small_matrix)))))
+          (ap (λ (y : Bool). cond y 0 9)
+          (ap₂ ◌&&◌ (ap₂ ◌&&◌ (ap₂ ◌&&◌ (ap₂ ◌&&◌ (long weights hw) (long targets ht)) (eq-eqb _ _ (length-zeros _ ∙ n.entry_count)))
+          (eq-eqb _ _ (length-zeros _ ∙ n.row_count))) (eq-eqb _ _ (length-zeros _ ∙ n.cell_count))))
 
-          on_held : fit_lent on weights targets size points count ≡ lent_fit
-          on_held =
-              ap (λ (o : FitSettings). fit_lent o weights targets size points count) is
-              ∙ ap (λ (t : List ℕ). fit_of s.total s.bitwidth t s.max_degree s.grid_degree (decoded weights) (decoded targets) (zeros size) (zeros points)
-              (zeros count)) held
+      held-cause : fit_bytes_cause s.count s.support.now weights targets out asked ≡ 0
+      held-cause = cause n.boxed false (le-ltb byte_limit entries small_matrix) true (sym tested ∙ ap₂ ◌&&◌ (ap₂ ◌&&◌ hw ht) ho)
 
-          pub fit_done : {r : Reply} {t : List ℕ} → r ≡ fit_reply (fit_lent on weights targets size points count)
-              → t ≡ encoded (fit_out (fit_lent on weights targets size points count)) → Said r t
-          unfolding fit_reply fit_number fit_out fit_bytes_reply fit_bytes_left fit_succeeds fit_answer fit_state
-          fit_done p q =
-              let said = degree_used_of asked.degrees (fit_answer asked) in
-              let ends : ℕ = cond (fit_succeeds asked) 0 10 in
-              let done = cond (fit_succeeds asked) (fit_answer asked) (tabulate (cells asked.degrees) (λ n. 0)) in
-              promised (
-                p ∙ ap fit_reply on_held ∙ ap (λ (n : ℕ). reply (first n ends) said) (lent-cause ∙ sym held-cause),
-                q
-                    ∙ ap (λ (f : Fit). encoded (fit_out f)) on_held
-                    ∙ ap (λ (n : ℕ). encoded (left n done (zeros count))) lent-cause
-                    ∙ ap (λ (n : ℕ). left n (encoded done) out) (sym held-cause),
-              )
+      pub fit_done : {r : Reply} {t : List ℕ} → r ≡ fit_reply (fit_lent on weights targets needs.entries needs.rows count)
+          → t ≡ encoded (fit_out (fit_lent on weights targets needs.entries needs.rows count)) → Said r t
+      unfolding fit_reply fit_number fit_out fit_bytes_reply fit_bytes_left fit_succeeds fit_answer fit_state
+      fit_done p q =
+          let said = degree_used_of asked.degrees (fit_answer asked) in
+          let ends : ℕ = cond (fit_succeeds asked) 0 10 in
+          let done = cond (fit_succeeds asked) (fit_answer asked) (tabulate (cells asked.degrees) (λ n. 0)) in
+          promised (
+            p ∙ ap fit_reply n.lent ∙ ap (λ (n : ℕ). reply (first n ends) said) (lent-cause ∙ sym held-cause),
+            q
+                ∙ ap (λ (f : Fit). encoded (fit_out f)) n.lent
+                ∙ ap (λ (n : ℕ). encoded (left n done (zeros count))) lent-cause
+                ∙ ap (λ (n : ℕ). left n (encoded done) out) (sym held-cause),
+          )

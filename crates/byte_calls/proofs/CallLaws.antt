@@ -1,35 +1,26 @@
 -- What follows for the numbers of the calls from what is known of bytes and settings.
-use mathlib.Core.Path.{◌≡◌, refl, sym, ◌∙◌, ap}
-use mathlib.Core.Bool.{Bool, true, false, cond}
-use mathlib.Core.List.{List}
-use Prim.Native.Nat.{ℕ, ◌*◌, ◌/◌, ◌%◌}
-use native.Mathlib.Omega.{arith}
-use lib.Dec.{eqb}
-use lib.ListN.{length}
-use borrow.Author.Tests.{eq-eqb, ne_eqb, eqb-true, eqb-false}
+use Rattle.std.proofs.Common.{Bor, ◌≡◌, sym, ◌∙◌, ap, Bool, true, false, cond, List, ℕ}
 use Rattle.meaning.specs.Replies.{Reply, refused}
-use Rattle.meaning.specs.Settings.{fits_width, small_number, first}
+use Rattle.meaning.specs.Settings.{fits_width, small_number, first, cube}
 use Rattle.meaning.specs.Calls.{reply}
+use Rattle.settings.specs.declared.Settings.{Settings}
+use Rattle.settings.specs.Forms.{degrees_of}
+use Rattle.byte_calls.specs.declared.checks.ByteSettings.{ByteSettings}
 use Rattle.byte_calls.specs.Bytes.{decoded}
+use Rattle.byte_calls.specs.Forms.{settings_on, byte_degrees}
 use Rattle.byte_calls.specs.Calls.{holds, box_number}
 
 -- ---- bytes of a count of entries
 
--- eight times the count, told by quotient and remainder
-pub holds_uneven : (bytes : List ℕ) (n : ℕ) → (length bytes % 8 ≡ 0 → ⊥) → false ≡ holds bytes n
-holds_uneven bytes n h = sym (ne_eqb _ _ (λ q. h (ap (◌% 8) q ∙ even n)))
-  where
-    even : (n : ℕ) → n * 8 % 8 ≡ 0
-    even n = omega arith
-
-pub holds_even : (bytes : List ℕ) (n : ℕ) → length bytes % 8 ≡ 0 → eqb (length bytes / 8) n ≡ holds bytes n
-holds_even bytes n h = by_cases (eqb (length bytes / 8) n) refl
-  where
-    by_cases : (b : Bool) → eqb (length bytes / 8) n ≡ b → b ≡ holds bytes n
-    by_cases true e = sym (eq-eqb (length bytes) (n * 8) (omega (arith, h, eqb-true (length bytes / 8) n e)))
-    by_cases false e = sym (ne_eqb _ _ (λ (q : length bytes ≡ n * 8). eqb-false (length bytes / 8) n e (omega (arith, q))))
-
 -- ---- the support's bytes, then the settings
+
+-- what is said of the settings on the indices that the support's bytes hold
+pub on_held : {B : Type 0} (f : ℕ → ℕ → List ℕ → List ℕ → B) (s : ByteSettings) {on : Settings} {indices : Bor (List ℕ)}
+    → on ≡ settings_on s indices → indices.now ≡ decoded s.support.now
+    → f on.total on.bitwidth on.support.now (degrees_of on) ≡ f s.total s.bitwidth (decoded s.support.now) (byte_degrees s)
+on_held f s is held =
+    ap (λ (o : Settings). f o.total o.bitwidth o.support.now (degrees_of o)) is
+    ∙ ap (λ (t : List ℕ). f s.total s.bitwidth t (cube t s.max_degree)) held
 
 module _ (strict : Bool) (count total w : ℕ) (support ds : List ℕ) where
   box-number : (b : Bool) → holds support count ≡ b

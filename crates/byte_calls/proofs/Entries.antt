@@ -1,5 +1,6 @@
 -- The library's words for the bytes of a number, and the chunks of a table, as entries.
-use Rattle.std.proofs.Common.{◌≡◌, Bool, ◌||◌, refl, sym, ap, ◌∙◌, ℕ, zero, suc, ◌+◌, ◌*◌, ◌/◌, ◌%◌, ◌^◌, ◌<◌, List, [], ◌∷◌, map, length, get_or, take, drop, arith, le_of_suc-le-suc, not-suc-le-zero, mul_comm, one-mul, suc-mul, add-zero, div-one, get_or-take, get_or-drop}
+use Rattle.std.proofs.Common.{◌≡◌, Bool, ◌||◌, refl, sym, ap, ◌∙◌, ℕ, zero, suc, ◌+◌, ◌*◌, ◌/◌, ◌%◌, ◌^◌, ◌<◌, List, [], ◌∷◌, map, length, get_or, take, drop}
+use Rattle.std.proofs.Common.{arith, le_of_suc-le-suc, not-suc-le-zero, mul_comm, one-mul, suc-mul, add-zero, div-one, get_or-take, get_or-drop}
 use Rattle.std.specs.Int.{w64, byte_at, byte_worth, bytes_low_first, sum_through, to_le_bytes, from_le_bytes}
 use Rattle.std.specs.Simd.{first_chunks}
 use Rattle.std.specs.List.{list_any}

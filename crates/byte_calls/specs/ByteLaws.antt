@@ -1,10 +1,7 @@
 -- Bytes and tables: decoding what was encoded gives the table back, and encoding what was decoded gives the bytes back.
-use Rattle.std.specs.Prelude.{◌≡◌, List, length}
-use Rattle.std.proofs.Math.Path.{refl, sym, ap, ap₂}
-use Rattle.std.proofs.Common.{◌∙◌, not-suc-le-zero, le_of_suc-le-suc, mul_assoc, mul_comm, pow-suc, mod-lt, mod-eq_of_lt, div-one, div-add-mod', mul-div_cancel, add-one}
-use Prim.Native.Nat.{ℕ, zero, suc, ◌+◌, ◌*◌, ◌-◌, ◌/◌, ◌%◌, ◌^◌, ◌≤◌, ◌<◌}
+use Rattle.std.specs.Prelude.{◌≡◌, List, length, ℕ, zero, suc, ◌+◌, ◌*◌, ◌-◌, ◌/◌, ◌%◌, ◌^◌, ◌≤◌, ◌<◌, refl}
+use Rattle.std.proofs.Common.{◌∙◌, not-suc-le-zero, le_of_suc-le-suc, mul_assoc, mul_comm, pow-suc, mod-lt, mod-eq_of_lt, div-one, div-add-mod', mul-div_cancel, add-one, arith, sym, ap, ap₂}
 use Rattle.std.proofs.Math.Nat.{one-le-pow, pow-le-pow_right, mod-one, div-div-eq-div-mul}
-use native.Mathlib.Omega.{arith}
 use Rattle.std.proofs.Math.Arith.{digits_lt, digits_div, digits_mod, mod-mul}
 use Rattle.meaning.specs.Sums.{sum}
 use Rattle.meaning.specs.Tables.{tabulate, at}

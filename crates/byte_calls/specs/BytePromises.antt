@@ -1,9 +1,7 @@
 -- The calls on bytes keep their promises, on the tables that the bytes hold. They pass with at most 4,096 cells, where the support has the bytes of its count,
 -- which are looked at before the settings, and every other table those of its entries.
-use Rattle.std.specs.Prelude.{◌≡◌, ◌↔◌, Bool, false, cond, ℕ, ◌*◌, ◌^◌, ◌≤◌, ◌<◌, List, [], ◌∷◌}
-use Rattle.std.proofs.Math.Path.{ap}
-use Rattle.std.proofs.Common.{◌∙◌, pow_pos}
-use Rattle.std.proofs.Math.Bool.{true}
+use Rattle.std.specs.Prelude.{◌≡◌, ◌↔◌, Bool, false, cond, ℕ, ◌*◌, ◌^◌, ◌≤◌, ◌<◌, List, [], ◌∷◌, true}
+use Rattle.std.proofs.Common.{ap, ◌∙◌, pow_pos}
 use Rattle.meaning.specs.Tables.{tabulate, at}
 use Rattle.meaning.specs.Boxes.{cells}
 use Rattle.meaning.specs.Recovery.{accepts, answer}

@@ -52,8 +52,8 @@ bytes_value_reply count total w support ds coeffs point =
 abbrev pub fit_held : ℕ → ℕ → List ℕ → ℕ → ℕ → List ℕ → List ℕ → Fit
 fit_held total w support most grid weights targets = fit_of total w (decoded support) most grid (decoded weights) (decoded targets) [] [] []
 
--- the first cause before anything is eliminated: the support's bytes and the settings on the grid, then 8 for a matrix above 4,096 entries, then 9 where there is
--- not a weight and a target for each grid cell and a coefficient for each cell of the answer's box
+-- the first cause before anything is eliminated: the support's bytes and the settings on the grid, then 8 for a matrix above 4,096 entries, then 9 where there
+-- is not a weight and a target for each grid cell and a coefficient for each cell of the answer's box
 unfoldable pub fit_bytes_cause : ℕ → List ℕ → List ℕ → List ℕ → List ℕ → Fit → ℕ
 unfolding box_number columns cells
 fit_bytes_cause count support weights targets out f =

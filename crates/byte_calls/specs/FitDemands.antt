@@ -1,9 +1,7 @@
 -- What holds of an accepted fit, said of the tables that the bytes hold: it follows from the two equations of the call on bytes, as the output's bytes hold the
 -- answer, a normal form.
-use Rattle.std.specs.Prelude.{◌≡◌, Bool, cond, List}
+use Rattle.std.specs.Prelude.{◌≡◌, Bool, cond, List, false, ℕ, ◌≤◌, min}
 use Rattle.std.proofs.Common.{sym, ap, ◌∙◌}
-use Rattle.std.proofs.Math.Bool.{false}
-use Prim.Native.Nat.{ℕ, ◌≤◌, min}
 use Rattle.meaning.specs.Tables.{tabulate}
 use Rattle.meaning.specs.Boxes.{cells}
 use Rattle.meaning.specs.Replies.{Reply}

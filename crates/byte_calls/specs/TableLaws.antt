@@ -1,12 +1,8 @@
 -- What the calls answer and leave, from what is known of the support's bytes, the settings and the tables' bytes: each has the same three cases, settings that
 -- are turned down, a wrong length, and the call on the tables that the bytes hold.
-use Rattle.std.specs.Prelude.{◌≡◌, Bool, List, [], ◌∷◌, ℕ, zero, suc, ◌*◌, ◌≤◌, ◌^◌, Result, Ok, Err, eqb, take, replicate}
-use Rattle.std.proofs.Math.Path.{refl, sym, ap, ap₂}
-use Rattle.std.proofs.Common.{◌∙◌, le_of_suc-le-suc, not-suc-le-zero, suc-ne-zero, arith}
-use Rattle.std.proofs.Math.Bool.{true, false, ◌&&◌, cond}
-use Rattle.std.proofs.Math.ListN.{length}
+use Rattle.std.specs.Prelude.{◌≡◌, Bool, List, [], ◌∷◌, ℕ, zero, suc, ◌*◌, ◌≤◌, ◌^◌, Result, Ok, Err, eqb, take, replicate, refl, true, false, ◌&&◌, cond, length}
+use Rattle.std.proofs.Common.{◌∙◌, le_of_suc-le-suc, not-suc-le-zero, suc-ne-zero, arith, eq-eqb, eqb-true, sym, ap, ap₂}
 use Rattle.std.proofs.lemmas.List.{length-replicate}
-use borrow.Author.Tests.{eq-eqb, eqb-true}
 use Rattle.meaning.specs.Tables.{tabulate}
 use Rattle.meaning.specs.Boxes.{cells}
 use Rattle.meaning.specs.Values.{value}
@@ -80,7 +76,8 @@ module _ (strict : Bool) (s : ByteSettings) {answer : Result ℕ Refusal} (says 
       let few = (passes byte_limit strict s.total fits support (byte_degrees s) causes.1).short in
       record {
         number = none;
-        settles = record { passes = passes_higher byte_limit strict s.total fits support (byte_degrees s) causes.1 table_limit (omega arith); counted = counted };
+        settles =
+            record { passes = passes_higher byte_limit strict s.total fits support (byte_degrees s) causes.1 table_limit (omega arith); counted = counted };
         held = record { bytes = bytes; few = rw (length-decoded s.support.now s.count bytes) at few };
         small = rw counted (settings-cells-le byte_limit strict s.total fits support (byte_degrees s) causes.1);
       }
@@ -170,8 +167,8 @@ module _ (s : ByteSettings) (coeffs point : List ℕ) where
       let support = s.support.now in
       let ds = byte_degrees s in
       (r ≡ bytes_value_reply s.count s.total s.bitwidth support ds coeffs point)
-      × Valued (CallPasses 4096 false s.total (fits_width s.bitwidth) (decoded support) ds (λ n. (support, s.count * 8) ∷ (coeffs, n * 8) ∷ (point, s.count * 8) ∷ []))
-      s.bitwidth ds (decoded coeffs) (decoded point) r
+      × Valued (CallPasses 4096 false s.total (fits_width s.bitwidth) (decoded support) ds
+      (λ n. (support, s.count * 8) ∷ (coeffs, n * 8) ∷ (point, s.count * 8) ∷ [])) s.bitwidth ds (decoded coeffs) (decoded point) r
 
   told : {r : Reply} → r ≡ bytes_value_reply s.count s.total s.bitwidth s.support.now (byte_degrees s) coeffs point → Replied r
   told = also (bytes_valued s.count s.total s.bitwidth s.support.now (byte_degrees s) coeffs point)

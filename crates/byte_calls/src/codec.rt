@@ -1,7 +1,12 @@
-// Tables as bytes, eight to an entry, least first: decoded and encoded.
-ghost use Rattle.std.specs.Prelude.{◌≡◌, ◌*◌, length};
+// Tables as bytes, eight to an entry, least first: decoded, encoded and tested.
+ghost use Rattle.std.specs.Prelude.{◌≡◌, ◌*◌, leb, length};
+ghost use Rattle.meaning.specs.Settings.{some};
+ghost use Rattle.settings.specs.Causes.{stand_in_of};
 ghost use Rattle.byte_calls.specs.Bytes.{decoded, encoded};
 ghost use Rattle.byte_calls.specs.Calls.{holds};
+
+// The most entries of a table.
+pub(crate) const MOST: usize = settings::BYTE_LIMIT as usize;
 
 // Whether the bytes are those of `count` entries, for any count.
 pub(crate) fn holds(bytes: &[u8], count: u64) -> bool
@@ -10,7 +15,9 @@ pub(crate) fn holds(bytes: &[u8], count: u64) -> bool
     bytes.len() % 8 == 0 && (bytes.len() / 8) as u64 == count
 }
 
-// Fills `words` with the entries that `bytes` hold.
+// Fills `words` with the entries that `bytes` hold. It is kept out of its callers: there the compiler clears the end of a large room twice, which takes a box of
+// 256 cells a seventh longer.
+#[inline(never)]
 pub(crate) fn decode(bytes: &[u8], words: &mut [u64])
     requires { length bytes.now ≡ length words.old * 8 }
     ensures { words.new ≡ decoded bytes.now }
@@ -30,4 +37,25 @@ pub(crate) fn encode(words: &[u64], bytes: &mut [u8])
         let from = i * 8;
         bytes[from..from + 8].copy_from_slice(&word.to_le_bytes());
     }
+}
+
+// Whether some index is not below the total.
+fn index_past(support: &[u8], total: u32) -> bool
+    ensures { result ≡ some (leb total) (decoded support.now) }
+{
+    let limit = total as u64;
+    let (entries, _) = support.as_chunks::<8>();
+    entries
+        .iter()
+        .any(|entry| limit <= u64::from_le_bytes(*entry))
+}
+
+// An index that is past the total where one of the support is.
+pub(crate) fn stand_in(support: &[u8], total: u32) -> u64
+    ensures { result ≡ stand_in_of total (decoded support.now) }
+{
+    if index_past(support, total) {
+        return total as u64;
+    }
+    0
 }

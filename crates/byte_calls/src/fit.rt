@@ -8,15 +8,15 @@ ghost use Rattle.byte_calls.specs.Calls.{fit_bytes_reply, fit_bytes_left};
 ghost use Rattle.byte_calls.specs.Forms.{byte_grid, fit_settings_on, fit_held_by};
 
 use crate::checks::ByteSettings;
-use crate::indices::Indices;
-use crate::{codec, rooms};
+use crate::codec::{self, MOST};
+use crate::rooms;
 use answers::Refusal;
 use room::sizes;
 use room::sizes::FitSettings;
 
 // The settings of a fit on bytes: the support, of `count` indices, the number of variables in all, the width, the highest sum of exponents, and the degree of
 // the grid, which every support variable has.
-#[derive(Clone, Copy)]
+#[derive(Clone, Copy, Debug, PartialEq, Eq)]
 pub struct ByteFitSettings<'a> {
     pub support: &'a [u8],
     pub count: u64,
@@ -69,12 +69,13 @@ pub fn fit(
         (fit_held_by s weights.now targets.now) }
     ensures leaves { let s = settings.now in out.new ≡ fit_bytes_left s.count s.support.now weights.now targets.now out.old
         (fit_held_by s weights.now targets.now) }
-    ensures fits { let s = settings.now in Fits s.bitwidth (cube (decoded s.support.now) (min s.max_degree s.grid_degree)) (cube (decoded s.support.now) s.grid_degree)
-        s.max_degree (decoded weights.now) (decoded targets.now) (said result).number (said result).value (decoded out.new) }
+    ensures fits { let s = settings.now in Fits s.bitwidth (cube (decoded s.support.now) (min s.max_degree s.grid_degree))
+        (cube (decoded s.support.now) s.grid_degree) s.max_degree (decoded weights.now) (decoded targets.now)
+        (said result).number (said result).value (decoded out.new) }
 {
-    settings.grid().check(false)?;
-    let indices = Indices::of(settings.support);
-    let asked = settings.on(indices.as_slice());
+    let mut places = [0u64; 20];
+    settings.grid().check(false, &mut places)?;
+    let asked = settings.on(&places[..settings.count as usize]);
     let needs = sizes::fit_room(&asked)?;
     if (settings::BYTE_LIMIT as u64) < needs.entries {
         return Err(Refusal::TooLarge);
@@ -90,5 +91,5 @@ pub fn fit(
     if needs.entries <= 128 {
         return rooms::fit_in::<128>(weights, targets, &asked, needs, cells as usize, out);
     }
-    rooms::fit_large(weights, targets, &asked, needs, cells as usize, out)
+    rooms::fit_in::<MOST>(weights, targets, &asked, needs, cells as usize, out)
 }

@@ -1,101 +1,62 @@
-// Recovery and value on tables of bytes with room by need: for 64 cells, or for as many as a table of bytes may have.
+// Recovery and value on tables of bytes with room by need: for 64 cells, or for as many as a table of bytes may have (`codec::MOST`). The library has no
+// heap, so the rooms are arrays, of which the part that is needed is lent. Each function is kept out of its caller, so that a small box does not have the room
+// of a large one in its frame. The bounds on ROOM stand in each contract, since no type of a const parameter holds them; the parameters are those of the call
+// and the cells that its check counted, and a struct of these would be made in one place and read in one.
 ghost use Rattle.std.specs.Prelude.{◌≡◌, ◌*◌, ◌≤◌, length};
 ghost use Rattle.meaning.specs.Settings.{byte_limit};
 ghost use Rattle.meaning.specs.Calls.{recovery_number, recovery_left, value_reply};
 ghost use Rattle.answers.specs.Said.{said, said_number};
+ghost use Rattle.settings.specs.Forms.{degrees_of};
 ghost use Rattle.byte_calls.specs.Bytes.{decoded, encoded};
-ghost use Rattle.byte_calls.specs.Forms.{zeros, byte_degrees};
-ghost use Rattle.byte_calls.specs.TableLaws.{Held};
+ghost use Rattle.byte_calls.specs.Forms.{zeros};
 
-use crate::checks::ByteSettings;
 use crate::codec;
-use crate::indices::Indices;
 use answers::Refusal;
-
-// The most cells.
-const MOST: usize = settings::BYTE_LIMIT as usize;
+use settings::Settings;
 
 // Recovery of a box of `cells` cells with room for so many.
+#[inline(never)]
 pub(crate) fn recover_in<const ROOM: usize>(
     values: &[u8],
-    settings: &ByteSettings,
+    settings: &Settings,
     cells: usize,
     out: &mut [u8],
 ) -> Result<(), Refusal>
-    requires tables { Held settings.now.support.now settings.now.count × (length values.now ≡ cells * 8) × (length out.old ≡ cells * 8) }
+    requires tables { (length values.now ≡ cells * 8) × (length out.old ≡ cells * 8) }
     requires room { (cells ≤ ROOM) × (ROOM ≤ byte_limit) }
-    ensures says { let s = settings.now in said_number result ≡ recovery_number s.total s.bitwidth (decoded s.support.now) (byte_degrees s)
+    ensures says { let s = settings.now in said_number result ≡ recovery_number s.total s.bitwidth s.support.now (degrees_of s)
         (decoded values.now) (zeros cells) }
-    ensures leaves { let s = settings.now in out.new ≡ encoded (recovery_left s.total s.bitwidth (decoded s.support.now) (byte_degrees s)
+    ensures leaves { let s = settings.now in out.new ≡ encoded (recovery_left s.total s.bitwidth s.support.now (degrees_of s)
         (decoded values.now) (zeros cells)) }
 {
-    let indices = Indices::of(settings.support);
     let mut read = [0u64; ROOM];
     let mut found = [0u64; ROOM];
     let read = &mut read[..cells];
     let found = &mut found[..cells];
     codec::decode(values, read);
-    let outcome = multivar_poly_recovery::recover_multivar_poly(
-        read,
-        &settings.on(indices.as_slice()),
-        found,
-    );
+    let outcome = multivar_poly_recovery::recover_multivar_poly(read, settings, found);
     codec::encode(found, out);
     outcome
 }
 
-// With room for the most cells. It is kept out of its caller, so that the small boxes do not have this room in their frame.
-#[inline(never)]
-pub(crate) fn recover_large(
-    values: &[u8],
-    settings: &ByteSettings,
-    cells: usize,
-    out: &mut [u8],
-) -> Result<(), Refusal>
-    requires { Held settings.now.support.now settings.now.count × (length values.now ≡ cells * 8) × (length out.old ≡ cells * 8) × (cells ≤ byte_limit) }
-    ensures says { let s = settings.now in said_number result ≡ recovery_number s.total s.bitwidth (decoded s.support.now) (byte_degrees s)
-        (decoded values.now) (zeros cells) }
-    ensures leaves { let s = settings.now in out.new ≡ encoded (recovery_left s.total s.bitwidth (decoded s.support.now) (byte_degrees s)
-        (decoded values.now) (zeros cells)) }
-{
-    recover_in::<MOST>(values, settings, cells, out)
-}
-
 // The value of a box of `cells` cells with room for so many.
+#[inline(never)]
 pub(crate) fn value_in<const ROOM: usize>(
     coeffs: &[u8],
-    settings: &ByteSettings,
+    settings: &Settings,
     cells: usize,
     point: &[u8],
 ) -> Result<u64, Refusal>
-    requires tables { Held settings.now.support.now settings.now.count × (length coeffs.now ≡ cells * 8) × (length point.now ≡ settings.now.count * 8) }
+    requires tables { (length coeffs.now ≡ cells * 8) × (length point.now ≡ length settings.now.support.now * 8) × (length settings.now.support.now ≤ 20) }
     requires room { (cells ≤ ROOM) × (ROOM ≤ byte_limit) }
-    ensures { let s = settings.now in said result ≡ value_reply s.total s.bitwidth (decoded s.support.now) (byte_degrees s)
+    ensures { let s = settings.now in said result ≡ value_reply s.total s.bitwidth s.support.now (degrees_of s)
         (decoded coeffs.now) (decoded point.now) }
 {
-    let indices = Indices::of(settings.support);
-    let coordinates = Indices::of(point);
+    let mut coordinates = [0u64; 20];
     let mut read = [0u64; ROOM];
+    let coordinates = &mut coordinates[..settings.support.len()];
     let read = &mut read[..cells];
+    codec::decode(point, coordinates);
     codec::decode(coeffs, read);
-    poly::value(
-        read,
-        &settings.on(indices.as_slice()),
-        coordinates.as_slice(),
-    )
-}
-
-// With room for the most cells, in the same way.
-#[inline(never)]
-pub(crate) fn value_large(
-    coeffs: &[u8],
-    settings: &ByteSettings,
-    cells: usize,
-    point: &[u8],
-) -> Result<u64, Refusal>
-    requires { Held settings.now.support.now settings.now.count × (length coeffs.now ≡ cells * 8) × (length point.now ≡ settings.now.count * 8) × (cells ≤ byte_limit) }
-    ensures { let s = settings.now in said result ≡ value_reply s.total s.bitwidth (decoded s.support.now) (byte_degrees s)
-        (decoded coeffs.now) (decoded point.now) }
-{
-    value_in::<MOST>(coeffs, settings, cells, point)
+    poly::value(read, settings, coordinates)
 }

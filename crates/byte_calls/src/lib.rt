@@ -14,11 +14,11 @@ mod checks;
 mod codec;
 pub mod fit;
 mod held;
-mod indices;
 mod rooms;
 
 use answers::Refusal;
 pub use checks::ByteSettings;
+use codec::MOST;
 
 // Recovers the coefficients of the falling factorials from the values on the grid {0, .., max_degree} over the support variables, modulo 2^bitwidth.
 // `values` has a value for each grid point and `out` gets a coefficient for each exponent list, first support variable fastest. Refused in the order 9 (the
@@ -33,14 +33,16 @@ pub fn recover(values: &[u8], settings: &ByteSettings, out: &mut [u8]) -> Result
         (λ n. (s.support.now, s.count * 8) ∷ (values.now, n * 8) ∷ (out.old, n * 8) ∷ []))
         s.bitwidth (byte_degrees s) (decoded values.now) (said_number result) (decoded out.new) }
 {
-    let cells = settings.check(true)?;
+    let mut places = [0u64; 20];
+    let cells = settings.check(true, &mut places)?;
     if !codec::holds(values, cells) || !codec::holds(out, cells) {
         return Err(Refusal::WrongLength);
     }
+    let asked = settings.on(&places[..settings.count as usize]);
     if cells <= 64 {
-        return held::recover_in::<64>(values, settings, cells as usize, out);
+        return held::recover_in::<64>(values, &asked, cells as usize, out);
     }
-    held::recover_large(values, settings, cells as usize, out)
+    held::recover_in::<MOST>(values, &asked, cells as usize, out)
 }
 
 // The value of a box of coefficients at a point, modulo 2^bitwidth: the sum over the cells of the coefficient times the falling factorials of the coordinates
@@ -53,12 +55,14 @@ pub fn value(coeffs: &[u8], settings: &ByteSettings, point: &[u8]) -> Result<u64
         (λ n. (s.support.now, s.count * 8) ∷ (coeffs.now, n * 8) ∷ (point.now, s.count * 8) ∷ []))
         s.bitwidth (byte_degrees s) (decoded coeffs.now) (decoded point.now) (said result) }
 {
-    let cells = settings.check(false)?;
+    let mut places = [0u64; 20];
+    let cells = settings.check(false, &mut places)?;
     if !codec::holds(coeffs, cells) || !codec::holds(point, settings.count) {
         return Err(Refusal::WrongLength);
     }
+    let asked = settings.on(&places[..settings.count as usize]);
     if cells <= 64 {
-        return held::value_in::<64>(coeffs, settings, cells as usize, point);
+        return held::value_in::<64>(coeffs, &asked, cells as usize, point);
     }
-    held::value_large(coeffs, settings, cells as usize, point)
+    held::value_in::<MOST>(coeffs, &asked, cells as usize, point)
 }

@@ -1,5 +1,5 @@
 // The fit on tables of bytes with room for its tables by need: the weights, the targets, the system and the coefficients, of 128 entries each, or of as many as
-// a table of bytes may have.
+// a table of bytes may have. The rooms are arrays, and the parameters stand alone, for the reasons said in `held`.
 ghost use Rattle.std.specs.Prelude.{◌≡◌, ◌*◌, ◌≤◌, length};
 ghost use Rattle.meaning.specs.Settings.{byte_limit};
 ghost use Rattle.meaning.specs.Fit.{fit_reply, fit_out};
@@ -11,10 +11,8 @@ use crate::codec;
 use answers::Refusal;
 use room::sizes::{FitRoom, FitSettings};
 
-// The most entries of a table.
-const MOST: usize = settings::BYTE_LIMIT as usize;
-
-// The fit of a box of `cells` cells, whose tables have their exact lengths, with room for so many entries a table.
+// The fit of a box of `cells` cells, whose tables have their exact lengths, with room for so many entries a table. It is kept out of its caller.
+#[inline(never)]
 pub(crate) fn fit_in<const ROOM: usize>(
     weights: &[u8],
     targets: &[u8],
@@ -50,22 +48,4 @@ pub(crate) fn fit_in<const ROOM: usize>(
     );
     codec::encode(found, out);
     answer
-}
-
-// With room for the most entries. It is kept out of its caller, so that the small fits do not have this room in their frame.
-#[inline(never)]
-pub(crate) fn fit_large(
-    weights: &[u8],
-    targets: &[u8],
-    settings: &FitSettings,
-    needs: FitRoom,
-    cells: usize,
-    out: &mut [u8],
-) -> Result<u64, Refusal>
-    requires tables { (length weights.now ≡ needs.rows * 8) × (length targets.now ≡ needs.rows * 8) × (length out.old ≡ cells * 8) }
-    requires room { (needs.rows ≤ byte_limit) × (needs.entries ≤ byte_limit) × (cells ≤ byte_limit) }
-    ensures says { said result ≡ fit_reply (fit_lent settings.now weights.now targets.now needs.entries needs.rows cells) }
-    ensures leaves { out.new ≡ encoded (fit_out (fit_lent settings.now weights.now targets.now needs.entries needs.rows cells)) }
-{
-    fit_in::<MOST>(weights, targets, settings, needs, cells, out)
 }

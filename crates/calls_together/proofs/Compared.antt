@@ -1,20 +1,17 @@
 -- What follows for comparisons: two forms that pass and are the same get a yes.
-use mathlib.Core.Path.{◌≡◌, sym, ap, ap₂, subst, ◌∙◌}
-use mathlib.Core.Logic.{◌⊎◌, inl, inr, ⊎_elim}
-use mathlib.Core.Bool.{Bool, false}
-use mathlib.Core.List.{List, [], ◌∷◌}
-use Prim.Native.Nat.{ℕ}
-use lib.ListN.{length}
+use Rattle.std.proofs.Common.{◌≡◌, sym, ap, ap₂, ◌∙◌, ◌⊎◌, inl, inr, ⊎_elim, Bool, false, List, [], ◌∷◌, ℕ, length}
+use Rattle.std.proofs.lemmas.List.{length-replicate}
 use Rattle.meaning.specs.Boxes.{cells}
 use Rattle.meaning.specs.Polynomials.{Term}
 use Rattle.meaning.specs.Sameness.{Form, Same}
 use Rattle.meaning.specs.Replies.{Reply, told, accepted}
-use Rattle.meaning.specs.Settings.{fits_width}
+use Rattle.settings.specs.declared.Form.{Form as Lent}
+use Rattle.settings.specs.Forms.{form_lent}
 use Rattle.theory.specs.SameForms.{form}
 use Rattle.demand3.specs.Words.{AgreeingOver, Relaid}
 use Rattle.demand3.specs.Settings.{CallPasses, FormPasses}
-use Rattle.demand3.specs.Promises.{Decides, Reduced, Compared}
-use Rattle.demand3.proofs.Comparisons.{placed, same_sym, same_trans, reduced_same, same_any_order_lem}
+use Rattle.demand3.specs.Promises.{Decides, Compared}
+use Rattle.demand3.proofs.Comparisons.{placed, same_trans, same_any_order_lem}
 use Rattle.demand3.proofs.SameRecoveries.{recoveries_same}
 use Rattle.calls_together.proofs.Together.{reply-accepted, passes_with, Recovers}
 
@@ -75,32 +72,19 @@ recoveries_follow each each' call call' c p agrees agrees' zero zero' =
 
 -- ---- reduction
 
--- a form is the same as what reduction left of it
-pub reduced_follows : {total w : ℕ} {support ds c was : List ℕ} {number : ℕ} {after : List ℕ}
-    → Reduced (CallPasses 65536 false total (fits_width w) support ds (λ n. (was, n) ∷ [])) w ds was number after
-    → {answer : Reply} → Compared (form total w support ds c) (form total w support ds after) answer
-    → was ≡ c → number ≡ 0 → answer ≡ accepted 1
-reduced_follows {total} {w} {support} {ds} {c} {was} {number} {after} r {answer} compared e zero =
-    let p : FormPasses (form total w support ds was) = r.accepted.0 zero in
-    yes_of compared (subst (λ (t : List ℕ). FormPasses (form total w support ds t)) e p) (also_passes p (r.normal zero).whole)
-    (subst (λ (t : List ℕ). Same (form total w support ds t) (form total w support ds after)) e (same_sym (reduced_same r zero total support)))
-
 -- ---- several comparisons
 
--- forms with a degree for each variable
-abbrev Each : Form → Type 0
-Each f = length f.degrees ≡ length f.support
+-- a lent form has a degree for each variable
+each : (f : Lent) → length (form_lent f).degrees ≡ length (form_lent f).support
+each f = length-replicate (length f.settings.support.now) f.settings.max_degree
 
-pub orders_follow : {f f' g g' : Form} → Each f → Each f' → Each g → Each g' → {one other : Reply} → Compared f g one → Compared f' g' other
-    → Relaid f f' → Relaid g g' → one.number ≡ 0 → other.number ≡ 0 → one ≡ other
-orders_follow a a' b b' x y r s z u =
+pub orders_follow : (a c b d : Lent) {one other : Reply} → Compared (form_lent a) (form_lent b) one → Compared (form_lent c) (form_lent d) other
+    → Relaid (form_lent a) (form_lent c) → Relaid (form_lent b) (form_lent d) → one.number ≡ 0 → other.number ≡ 0 → one ≡ other
+orders_follow a c b d x y r s z u =
     let p = x.accepted.0 z in
     let q = y.accepted.0 u in
-    let i = same_any_order_lem (placed p.0 a) (placed q.0 a') (placed p.1 b) (placed q.1 b') r s in
+    let i = same_any_order_lem (placed p.0 (each a)) (placed q.0 (each c)) (placed p.1 (each b)) (placed q.1 (each d)) r s in
     same_replies x.either y.either z u (λ v. (y.yes u).1 (i.0 ((x.yes z).0 v))) (λ v. (x.yes z).1 (i.1 ((y.yes u).0 v)))
-
-pub turned_follows : {f g : Form} {first turned : Reply} → Compared f g first → Compared g f turned → first ≡ accepted 1 → turned ≡ accepted 1
-turned_follows x y e = let p = x.accepted.0 (number_of x e) in yes_of y p.1 p.0 (same_sym (same_of x e))
 
 pub handed_on : {f g h : Form} {first second whole : Reply} → Compared f g first → Compared g h second → Compared f h whole
     → first ≡ accepted 1 → second ≡ accepted 1 → whole ≡ accepted 1

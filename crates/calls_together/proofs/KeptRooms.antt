@@ -1,21 +1,13 @@
 -- The number of a call: its settings, then 9 for the lengths, then the number for its values; so that it keeps to its room.
-use mathlib.Core.Path.{◌≡◌, refl, sym, ap, subst, ◌∙◌}
-use mathlib.Core.Logic.{◌⊎◌, inl, inr, ⊎_elim, ◌↔◌}
-use mathlib.Core.Bool.{Bool, true, false, ◌&&◌, cond, false≢true}
-use mathlib.Core.List.{List}
-use Prim.Native.Nat.{ℕ, zero, suc, ◌*◌}
-use native.Mathlib.Nat.{suc-ne-zero}
-use native.Mathlib.Omega.{arith}
-use borrow.Author.Tests.{eqb-true, eq-eqb}
-use lib.Dec.{eqb}
-use lib.ListN.{length}
+use Rattle.std.proofs.Common.{◌≡◌, refl, sym, ◌⊎◌, inl, inr, ⊎_elim, ◌↔◌, Bool, true, false, ◌&&◌, cond, List, ℕ, zero, suc, ◌*◌, suc-ne-zero, arith, eqb-true, eq-eqb, eqb, length}
+use Rattle.std.proofs.Math.Bool.{false≢true}
 use Rattle.meaning.specs.Boxes.{cells}
 use Rattle.meaning.specs.Recovery.{accepts}
 use Rattle.meaning.specs.Replies.{Reply}
 use Rattle.meaning.specs.Settings.{fits_width, settings_number, first, call_number}
 use Rattle.meaning.specs.Calls.{reply, recovery_number}
 use Rattle.meaning.specs.Fit.{Fit, fit_rows, fit_columns_of, fit_settings_number, fit_lengths, fit_cause, fit_succeeds, fit_number, fit_reply}
-use Rattle.meaning.specs.Counts.{subtractions, recovery_room_of, recovery_room_lem, fit_room_of, fit_room_lem}
+use Rattle.meaning.specs.Counts.{RecoveryRoom, FitRoom, subtractions, recovery_room_of, recovery_room_lem, fit_room_of, fit_room_lem}
 use Rattle.demand3.specs.Tests.{and_true}
 use Rattle.calls_together.specs.Rooms.{RecoveryKeeps, FitKeeps}
 
@@ -28,15 +20,17 @@ ends_exact false a last n =
     (⊎_elim (λ (e : 9 ≡ 0). absurd (suc-ne-zero 8 e)) (λ (e : 9 ≡ last). absurd (n (sym e))), λ e. absurd (false≢true e))
 
 module _ (total w : ℕ) (support ds v out : List ℕ) where
-  pub recovery_keeps : RecoveryKeeps (recovery_room_lem total w support ds) (length v) (length out) (recovery_number total w support ds v out)
+  pub recovery_keeps : {room : RecoveryRoom} {number : ℕ} → room ≡ recovery_room_lem total w support ds → number ≡ recovery_number total w support ds v out
+      → RecoveryKeeps room (length v) (length out) number
   unfolding recovery_room_lem recovery_number call_number
-  recovery_keeps = go (settings_number true total (fits_width w) support ds)
+  recovery_keeps e f = rw (e, f) (go (settings_number true total (fits_width w) support ds))
     where
       exact : Bool
       exact = eqb (length v) (cells ds) && eqb (length out) (cells ds)
 
       go : (n : ℕ)
-          → RecoveryKeeps (recovery_room_of n (cells ds) (subtractions ds)) (length v) (length out) (first (first n (cond exact 0 9)) (cond (accepts w ds v) 0 6))
+          → RecoveryKeeps (recovery_room_of n (cells ds) (subtractions ds)) (length v) (length out)
+          (first (first n (cond exact 0 9)) (cond (accepts w ds v) 0 6))
       go zero =
           let ends = ends_exact exact (accepts w ds v) 6 (λ e. six e) in
           let both = and_true (eqb (length v) (cells ds)) (eqb (length out) (cells ds)) in
@@ -93,14 +87,11 @@ module _ (f : Fit) where
           ten e = omega arith
       go (suc n) = record { turned = λ h. refl; exact = λ e. absurd (suc-ne-zero n e) }
 
-  -- the number of the reply
-  pub reply_keeps : {r : Reply} → r ≡ fit_reply f
-      → FitKeeps (fit_room_lem f) (cells f.degrees) (length f.weights) (length f.targets) (length f.matrix) (length f.right) (length f.out) r.number
+  -- the room and the number of the reply
+  pub reply_keeps : {room : FitRoom} {r : Reply} → room ≡ fit_room_lem f → r ≡ fit_reply f
+      → FitKeeps room (cells f.degrees) (length f.weights) (length f.targets) (length f.matrix) (length f.right) (length f.out) r.number
   unfolding fit_reply
-  reply_keeps {r} e =
-      subst
-      (FitKeeps (fit_room_lem f) (cells f.degrees) (length f.weights) (length f.targets) (length f.matrix) (length f.right) (length f.out))
-      (sym (ap (λ (x : Reply). x.number) e ∙ number_of (fit_number f) _)) fit_keeps
+  reply_keeps q e = rw (q, e, number_of (fit_number f)) fit_keeps
     where
       number_of : (n v : ℕ) → (reply n v).number ≡ n
       number_of zero v = refl

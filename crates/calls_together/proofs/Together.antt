@@ -1,11 +1,5 @@
 -- What follows from the promises of several calls on tables of numbers: their conditions hand on from one call to the next.
-use mathlib.Core.Path.{◌≡◌, refl, sym, ap₂, ◌∙◌}
-use mathlib.Core.Logic.{inl}
-use mathlib.Core.Bool.{Bool, true, false}
-use Prim.Native.Nat.{ℕ}
-use mathlib.Core.List.{List, [], ◌∷◌}
-use lib.IntN.{ℤ}
-use lib.ListN.{length}
+use Rattle.std.proofs.Common.{◌≡◌, refl, sym, ap₂, ◌∙◌, inl, Bool, true, false, ℕ, List, [], ◌∷◌, ℤ, length}
 use Rattle.meaning.specs.Boxes.{cells}
 use Rattle.meaning.specs.Polynomials.{Term}
 use Rattle.meaning.specs.Replies.{Reply, told, accepted}

@@ -1,4 +1,4 @@
-// The database's two calls one after the other.
+// The database's two calls one after the other. What the calls said is a struct (`lib` says why).
 ghost use Rattle.std.specs.Prelude.{◌≡◌, ◌*◌, List, ℤ, length};
 ghost use Rattle.meaning.specs.Polynomials.{Term};
 ghost use Rattle.meaning.specs.Replies.{accepted};
@@ -11,7 +11,7 @@ use answers::Refusal;
 use byte_calls::ByteSettings;
 
 // What both said.
-#[derive(Clone, Copy)]
+#[derive(Clone, Copy, Debug, PartialEq, Eq)]
 struct LevelOutcomes {
     recovered: Result<(), Refusal>,
     level: Result<u64, Refusal>,

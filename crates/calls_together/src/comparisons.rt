@@ -1,4 +1,4 @@
-// Sameness of what other calls left, and several comparisons.
+// Sameness of what other calls left, and several comparisons. What the calls said is a struct (`lib` says why).
 ghost use Rattle.std.specs.Prelude.{◌≡◌, List};
 ghost use Rattle.meaning.specs.Settings.{cube};
 ghost use Rattle.meaning.specs.Polynomials.{Term};
@@ -11,7 +11,7 @@ use answers::Refusal;
 use settings::{Form, Settings};
 
 // What two recoveries and the comparison of their answers said.
-#[derive(Clone, Copy)]
+#[derive(Clone, Copy, Debug, PartialEq, Eq)]
 struct RecoveredTwice {
     first: Result<(), Refusal>,
     second: Result<(), Refusal>,
@@ -56,7 +56,7 @@ fn recover_twice(
 }
 
 // What a reduction and the comparison with what was before said.
-#[derive(Clone, Copy)]
+#[derive(Clone, Copy, Debug, PartialEq, Eq)]
 struct ReducedOutcomes {
     reduced: Result<(), Refusal>,
     same: Result<bool, Refusal>,
@@ -78,7 +78,7 @@ fn reduce_and_compare(form: &Form, copy: &mut [u64]) -> ReducedOutcomes
 }
 
 // What two comparisons said.
-#[derive(Clone, Copy)]
+#[derive(Clone, Copy, Debug, PartialEq, Eq)]
 struct TwoTruths {
     one: Result<bool, Refusal>,
     other: Result<bool, Refusal>,
@@ -95,7 +95,7 @@ fn same_any_order(a: &Form, c: &Form, b: &Form, d: &Form) -> TwoTruths
 }
 
 // What four comparisons said.
-#[derive(Clone, Copy)]
+#[derive(Clone, Copy, Debug, PartialEq, Eq)]
 struct FourTruths {
     first: Result<bool, Refusal>,
     turned: Result<bool, Refusal>,

@@ -1,4 +1,4 @@
-// Calls on what recovery, a conversion or the normaliser left.
+// Calls on what recovery, a conversion or the normaliser left. What the calls said is a struct (`lib` says why).
 ghost use Rattle.std.specs.Prelude.{◌≡◌, ℕ, ◌%◌, ◌^◌, ◌<◌, List, ℤ, length};
 ghost use Rattle.meaning.specs.Tables.{at};
 ghost use Rattle.meaning.specs.Boxes.{cells};
@@ -13,7 +13,7 @@ use answers::Refusal;
 use settings::Settings;
 
 // What recovery, the value and the test of a normal form said.
-#[derive(Clone, Copy)]
+#[derive(Clone, Copy, Debug, PartialEq, Eq)]
 struct ValueOutcomes {
     recovered: Result<(), Refusal>,
     value: Result<u64, Refusal>,

@@ -1,4 +1,4 @@
-// Recovery of several grids.
+// Recovery of several grids. What the calls said is a struct (`lib` says why).
 ghost use Rattle.std.specs.Prelude.{◌≡◌, true, [], ◌∷◌, length};
 ghost use Rattle.meaning.specs.Boxes.{cells};
 ghost use Rattle.meaning.specs.Settings.{cube, fits_width};
@@ -12,7 +12,7 @@ use answers::Refusal;
 use settings::Settings;
 
 // What three recoveries and a sum said.
-#[derive(Clone, Copy)]
+#[derive(Clone, Copy, Debug, PartialEq, Eq)]
 struct SumOutcomes {
     first: Result<(), Refusal>,
     second: Result<(), Refusal>,

@@ -1,4 +1,4 @@
-// Moves of the datum, and moves beside other calls.
+// Moves of the datum, and moves beside other calls. What the calls said is a struct (`lib` says why).
 ghost use Rattle.std.specs.Prelude.{◌≡◌, ℕ, ◌+◌, ◌%◌, ◌^◌, ◌<◌, List, map, ℤ, pos, length};
 ghost use Rattle.meaning.specs.Tables.{at};
 ghost use Rattle.meaning.specs.Boxes.{cells, digits};
@@ -55,7 +55,7 @@ fn move_nowhere(
 }
 
 // What three moves and two sums said.
-#[derive(Clone, Copy)]
+#[derive(Clone, Copy, Debug, PartialEq, Eq)]
 struct SumOutcomes {
     first: Result<(), Refusal>,
     second: Result<(), Refusal>,
@@ -76,8 +76,8 @@ fn move_sum(
     whole: &mut [u64],
     shifted: &mut [u64],
 ) -> SumOutcomes
-    ensures { said_number result.first ≡ 0 → said_number result.second ≡ 0 → said_number result.sum ≡ 0 → said_number result.total ≡ 0 → said_number result.moved ≡ 0
-        → summed.new ≡ shifted.new }
+    ensures { said_number result.first ≡ 0 → said_number result.second ≡ 0 → said_number result.sum ≡ 0 → said_number result.total ≡ 0
+        → said_number result.moved ≡ 0 → summed.new ≡ shifted.new }
 {
     let first = datum::move_datum(a, settings, offsets, x);
     let second = datum::move_datum(b, settings, offsets, y);

@@ -1,4 +1,4 @@
-// The room from the settings alone, and the call itself.
+// The room from the settings alone, and the call itself. What the calls said is a struct (`lib` says why).
 ghost use Rattle.std.specs.Prelude.{length};
 ghost use Rattle.meaning.specs.Boxes.{cells};
 ghost use Rattle.answers.specs.Said.{said, said_number};
@@ -13,7 +13,7 @@ use room::sizes::{FitRoom, FitSettings};
 use settings::Settings;
 
 // What the room of recovery and recovery said.
-#[derive(Clone, Copy)]
+#[derive(Clone, Copy, Debug, PartialEq, Eq)]
 struct RecoveryPair {
     room: Result<RecoveryRoom, Refusal>,
     call: Result<(), Refusal>,
@@ -29,7 +29,7 @@ fn recover_in_room(values: &[u64], settings: &Settings, out: &mut [u64]) -> Reco
 }
 
 // What the room of the fit and the fit said.
-#[derive(Clone, Copy)]
+#[derive(Clone, Copy, Debug, PartialEq, Eq)]
 struct FitPair {
     room: Result<FitRoom, Refusal>,
     call: Result<u64, Refusal>,

@@ -45,6 +45,7 @@ pub extern "C" fn cobra_solve_2adic_fixed(
     if matrix.len() != 16 || right.len() != 4 || answer.len() != 4 {
         return u32::from(Refusal::WrongLength);
     }
+    // written out: `array::from_fn` would take two closures, one in the other, and show the layout no better
     let rows = [
         [matrix[0], matrix[1], matrix[2], matrix[3]],
         [matrix[4], matrix[5], matrix[6], matrix[7]],

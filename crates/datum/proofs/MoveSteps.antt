@@ -1,11 +1,7 @@
 -- The number of a move, test by test, and its steps: a table copied, moved along every variable modulo 2^64 and reduced is the moved form.
-use mathlib.Core.Path.{◌≡◌, refl, ap, ◌∙◌}
-use mathlib.Core.Bool.{Bool, true, false, ◌&&◌, cond}
-use mathlib.Core.List.{List}
-use Prim.Native.Nat.{ℕ, zero, suc, ◌^◌, ◌≤◌, min}
+use Rattle.std.specs.Prelude.{◌≡◌, refl, Bool, true, false, ◌&&◌, cond, List, ℕ, zero, suc, ◌^◌, ◌≤◌, min, eqb, length}
+use Rattle.std.proofs.Common.{ap, ◌∙◌}
 use borrow.Author.Tests.{eq-eqb}
-use lib.Dec.{eqb}
-use lib.ListN.{length}
 use Rattle.meaning.specs.Boxes.{cells}
 use Rattle.meaning.specs.Values.{bound, box_reduced}
 use Rattle.meaning.specs.Datum.{moved}

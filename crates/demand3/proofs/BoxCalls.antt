@@ -1,12 +1,7 @@
 -- The calls on boxes keep their promises: each follows from the equations of the call's contract.
-use Rattle.std.specs.Prelude.{◌≡◌, refl, ◌⊎◌, ◌↔◌, Bool, ◌&&◌, ℕ, zero, suc, ◌+◌, ◌%◌, ◌^◌, ◌<◌, ltb, eqb, ℤ}
-use Rattle.std.proofs.Math.Path.{sym, ap}
-use Rattle.std.proofs.Common.{ap₂, ◌∙◌, inl, inr, mod-lt, ltb-true, lt-ltb, pow_pos}
-use Rattle.std.proofs.Math.Bool.{true, false}
-use mathlib.Core.List.{List, [], ◌∷◌, map}
+use Rattle.std.specs.Prelude.{◌≡◌, refl, ◌⊎◌, ◌↔◌, Bool, ◌&&◌, ℕ, zero, suc, ◌+◌, ◌%◌, ◌^◌, ◌<◌, ltb, eqb, ℤ, true, false, List, [], ◌∷◌, map, pos, length}
+use Rattle.std.proofs.Common.{sym, ap, ap₂, ◌∙◌, inl, inr, mod-lt, ltb-true, lt-ltb, pow_pos}
 use Rattle.std.proofs.Math.Nat.{zero-mod}
-use Rattle.std.proofs.Math.IntN.{pos}
-use Rattle.std.proofs.Math.ListN.{length}
 use Rattle.meaning.specs.Tables.{at}
 use Rattle.meaning.specs.Boxes.{cells, digits}
 use Rattle.meaning.specs.Values.{value, bound, Normal, box_total, box_reduced}
@@ -15,8 +10,7 @@ use Rattle.meaning.specs.Conversions.{falling_box, power_box, normal_box}
 use Rattle.meaning.specs.Recovery.{every}
 use Rattle.meaning.specs.Replies.{Reply}
 use Rattle.meaning.specs.Settings.{fits_width, call_number}
-use Rattle.meaning.specs.Calls.{reply, left, truth, valid_reply, value_reply, in_out_number, sum_number, sum_left, reduce_number, reduce_left, convert_left}
-use Rattle.meaning.specs.Calls.{move_number, move_left}
+use Rattle.meaning.specs.Calls.{reply, left, truth, valid_reply, value_reply, in_out_number, sum_number, sum_left, reduce_number, reduce_left, convert_left, move_number, move_left}
 use Rattle.meaning.specs.Datum.{moved_point, moved}
 use Rattle.theory.specs.AcceptedCalls.{number-reply}
 use Rattle.theory.specs.Congruence.{Cong, cong_of_eq, cong_sym, cong_trans, cong_add_right, mod-cong}

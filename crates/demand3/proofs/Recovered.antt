@@ -1,8 +1,7 @@
 -- What rests on the laws of Settings.antt and Recovery.antt: when a call on tables of numbers passes, and that the answer of recovery is the only normal form,
 -- has the value of every polynomial where the grid decides, and of not all where it does not.
 use Rattle.std.specs.Prelude.{◌≡◌, ◌↔◌, Bool, true, [], ℕ, suc, ◌+◌, ◌^◌, ◌<◌, List, ◌++◌, map, T, ℤ, pos, length}
-use Rattle.std.proofs.Math.Path.{sym}
-use Rattle.std.proofs.Common.{◌∙◌, suc-le-suc, add-zero, zero-add, add_comm, pow_pos}
+use Rattle.std.proofs.Common.{sym, ◌∙◌, suc-le-suc, add-zero, zero-add, add_comm, pow_pos}
 use Rattle.meaning.specs.Tables.{at}
 use Rattle.meaning.specs.Boxes.{cells, digits}
 use Rattle.meaning.specs.Factorials.{degree_cap_of}

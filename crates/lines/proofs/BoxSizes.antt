@@ -1,5 +1,5 @@
 -- The loop that counts the cells of a box: the count so far times that of the variables left is all, so that a count above a table's length decides.
-use Rattle.std.proofs.Common.{◌≡◌, ℕ, zero, suc, ◌+◌, ◌*◌, ◌^◌, ◌<◌, ◌≤◌, false, eqb, ◌⊎◌, List, length, drop, sym, ap, ◌∙◌, inl, inr, zero-le, le_trans, le_of_suc-le-suc, lt_irrefl, mul-le-mul_right, mul-le-mul_left, mul-one, add-one, arith, drop_of_length-le, drop-cons, ne_eqb}
+use Rattle.std.proofs.Common.{◌≡◌, ℕ, zero, suc, ◌+◌, ◌*◌, ◌^◌, ◌<◌, ◌≤◌, false, eqb, ◌⊎◌, List, length, drop, sym, ap, ◌∙◌, inl, inr, le_trans, le_of_suc-le-suc, lt_irrefl, mul-le-mul_right, mul-le-mul_left, mul-one, add-one, arith, drop_of_length-le, drop-cons, ne_eqb}
 use Rattle.meaning.specs.Tables.{at}
 use Rattle.meaning.specs.Boxes.{cells}
 use Rattle.theory.specs.Boxes.{cells_pos}
@@ -9,9 +9,6 @@ pub record Counted (ds : List ℕ) (size i : ℕ) : Type 0 where
   pub within : i ≤ length ds
   pub small : size < 2 ^ 60
   pub whole : cells ds ≡ size * cells (drop i ds)
-
-pub counted_start : (ds : List ℕ) → Counted ds 1 0
-counted_start ds = record { within = zero-le; small = omega arith; whole = omega arith }
 
 module _ (ds : List ℕ) (size i : ℕ) (r : Counted ds size i) where
   module _ (h : i < length ds) where

@@ -1,6 +1,6 @@
 -- Where all differences of an order are 0, so are those of every higher order: from there on a pass changes nothing.
 use Rattle.std.proofs.Common.{◌≡◌, ℕ, zero, suc, ◌+◌, ◌-◌, ◌*◌, ◌<◌, ◌≤◌, List, sym, ◌∙◌, ap₂, le_trans, suc-add, mul-le-mul_left, zero-add, le-add_left, arith}
-use native.Mathlib.Decide.{dec_le}
+use Rattle.std.proofs.Math.Decide.{dec_le}
 use Rattle.meaning.specs.Tables.{at}
 use Rattle.meaning.specs.Differences.{minus}
 use Rattle.lines.specs.FlatTables.{lined}

@@ -1,14 +1,13 @@
 -- Two passes at once over a block. From the highest number down each gets its value after both, from three numbers that are still as they were; the
 -- lowest index, which only the first pass reaches, is done by a single pass over the part below.
 use Rattle.std.proofs.Common.{◌≡◌, ℕ, suc, ◌+◌, ◌-◌, ◌*◌, ◌^◌, ◌<◌, ◌≤◌, List, length, set, sym, refl, ap, ◌∙◌, ap₂, le_refl, lt_of_lt_of_le, lt_irrefl, zero-add, arith, length-set}
-use native.Mathlib.Nat.{sub-zero}
-use native.Mathlib.Decide.{dec_le}
+use Rattle.std.proofs.Math.Nat.{sub-zero}
+use Rattle.std.proofs.Math.Decide.{dec_le}
 use Rattle.meaning.specs.Tables.{at}
 use Rattle.meaning.specs.Differences.{minus}
 use Rattle.theory.specs.Parts.{part, put, length_part, at_part, length-put, at-put-within, at-put-after}
 use Rattle.lines.specs.FlatTables.{lined}
-use Rattle.lines.specs.InPlace.{Parted, parted_of_low, parted_down, differenced, lined-differenced, lined-kept, NewtonPassed}
-use Rattle.lines.proofs.Passes.{PassDone}
+use Rattle.lines.specs.InPlace.{Parted, parted_of_low, parted_down, differenced, lined-differenced, lined-kept, NewtonPassed, PassDone}
 
 -- place i of the lines f after q passes
 abbrev after : ℕ → ℕ → ℕ → (ℕ → ℕ) → ℕ → ℕ
@@ -73,16 +72,17 @@ module _ (stride end : ℕ) (t₀ : List ℕ) where
     fits : end ≤ length t
     fits = omega (arith, r.above, r.within)
 
-    -- the part before `end` comes back as ys
-    pub pair_length : (ys : List ℕ) → length ys ≡ length (part 0 end t) → length (put 0 end t ys) ≡ length t₀
-    pair_length ys long = length-put 0 end t fits (omega arith) ys (long ∙ length_part 0 end t fits) ∙ r.same
-
     -- with the lowest index one pass further
     pub pair_done : (low : ℕ) → end ≡ low + stride → i ≤ end → (ys : List ℕ) → length ys ≡ length (part 0 end t)
         → PassDone stride low (part 0 end t) ys → (d p : ℕ) (f : ℕ → ℕ) → low ≡ stride * suc p
         → NewtonPassed (2 ^ 64) stride d f (length t₀) p t₀ → NewtonPassed (2 ^ 64) stride d f (length t₀) (suc (suc p)) (put 0 end t ys)
     pair_done low e h ys long done d p f k s =
-        record { shows = record { same = pair_length ys long; entry = λ j q. go j q (dec_le end j) } }
+        record {
+          shows = record {
+            same = length-put 0 end t fits (omega arith) ys (long ∙ length_part 0 end t fits) ∙ r.same;
+            entry = λ j q. go j q (dec_le end j);
+          };
+        }
       where
         top : end ≡ stride * suc (suc p)
         top = omega (arith, e, k)

@@ -1,12 +1,12 @@
 -- The loops of the differences: one pass over a block, and the passes over it. Both speak of every line transform that the block may be in the
 -- middle of, so that no bound on the number of passes is needed before the end.
-use Rattle.std.proofs.Common.{◌≡◌, ℕ, suc, ◌+◌, ◌-◌, ◌*◌, ◌^◌, ◌<◌, ◌≤◌, List, length, set, refl, ◌∙◌, le_refl, le_of_suc-le-suc, le-add_right, mul-le-mul_left, arith, length-set}
-use native.Mathlib.Nat.{le_of_mul-le-mul_left, lt_of_mul-lt-mul_left}
+use Rattle.std.proofs.Common.{◌≡◌, ℕ, suc, ◌+◌, ◌-◌, ◌*◌, ◌^◌, ◌<◌, ◌≤◌, List, length, set, ◌∙◌, le_refl, le_of_suc-le-suc, le-add_right, arith, length-set}
+use Rattle.std.proofs.Math.Nat.{le_of_mul-le-mul_left}
 use Rattle.meaning.specs.Tables.{tabulate, at}
 use Rattle.meaning.specs.Differences.{minus, newton}
 use Rattle.lines.specs.FlatTables.{lined}
 use Rattle.theory.specs.Tables.{eq-tabulate}
-use Rattle.lines.specs.InPlace.{ZeroFrom, NewtonPassed, NewtonPass, newton-start, newton_pass_start, newton_pass_step, newton_pass_done, newton_done}
+use Rattle.lines.specs.InPlace.{ZeroFrom, NewtonPassed, NewtonPass, newton-start, newton_pass_step, newton_pass_done, newton_done, PassDone, PairDone}
 use Rattle.lines.proofs.NothingLeft.{stays}
 
 -- ---- one pass
@@ -19,10 +19,6 @@ pub record Passing (stride low : ℕ) (t₀ t : List ℕ) (i : ℕ) : Type 0 whe
       → NewtonPass (2 ^ 64) stride d f (length t₀) p i t
 
 module _ (stride low : ℕ) (t₀ : List ℕ) where
-  pub passing_start : Passing stride low t₀ t₀ (length t₀)
-  passing_start =
-      record { same = refl; within = le_refl (length t₀); passing = λ d p f e r. newton_pass_start r }
-
   pub passing_step : (t : List ℕ) (i v : ℕ) → Passing stride low t₀ t i → 0 < stride → low < i
       → v ≡ minus (2 ^ 64) (at t (i - 1)) (at t (i - 1 - stride)) → Passing stride low t₀ (set t (i - 1) v) (i - 1)
   passing_step t i v r pos h e =
@@ -43,18 +39,6 @@ module _ (stride low : ℕ) (t₀ : List ℕ) where
 
 -- ---- the passes over a block
 
--- what one pass promises
-abbrev pub PassDone : ℕ → ℕ → List ℕ → List ℕ → Type 0
-PassDone stride low t t' =
-    (d p : ℕ) (f : ℕ → ℕ) → low ≡ stride * suc p → NewtonPassed (2 ^ 64) stride d f (length t) p t
-    → NewtonPassed (2 ^ 64) stride d f (length t) (suc p) t'
-
--- and two at once
-abbrev pub PairDone : ℕ → ℕ → List ℕ → List ℕ → Type 0
-PairDone stride low t t' =
-    (d p : ℕ) (f : ℕ → ℕ) → low ≡ stride * suc p → NewtonPassed (2 ^ 64) stride d f (length t) p t
-    → NewtonPassed (2 ^ 64) stride d f (length t) (suc (suc p)) t'
-
 -- the next pass ends at place `low`
 pub record Passes (stride d : ℕ) (t₀ t : List ℕ) (low : ℕ) : Type 0 where
   pub count : ℕ
@@ -72,15 +56,9 @@ module _ (stride d : ℕ) (t₀ : List ℕ) where
         passed = newton-start (2 ^ 64) stride d t₀;
       }
 
-  module _ (t : List ℕ) (low : ℕ) (r : Passes stride d t₀ t low) (pos : 0 < stride) (whole : length t₀ ≡ stride * suc d) where
+  module _ (t : List ℕ) (low : ℕ) (r : Passes stride d t₀ t low) where
     same : length t ≡ length t₀
     same = r.passed.shows.same
-
-    -- there is room for one index more
-    pub passes_room : low < length t → low + stride ≤ length t
-    passes_room h =
-        let more : suc r.count < suc d = lt_of_mul-lt-mul_left stride (rw (← r.place, ← whole, ← same) h) in
-        omega (arith, r.place, whole, same, mul-le-mul_left stride more)
 
     -- one pass, and two at once
     pub passes-step : (t' : List ℕ) → PassDone stride low t t' → Passes stride d t₀ t' (low + stride)
@@ -101,15 +79,16 @@ module _ (stride d : ℕ) (t₀ : List ℕ) where
           passed = rw same at (done d r.count (at t₀) r.place (rw same r.passed));
         }
 
-    pub passes_done : length t ≤ low → t ≡ tabulate (length t₀) (lined (newton (2 ^ 64)) stride d (at t₀))
-    passes_done h =
-        let enough : d ≤ r.count = le_of_suc-le-suc (le_of_mul-le-mul_left (rw (← r.place, ← whole, ← same) h) pos) in
-        let shown = newton_done pos whole enough r.passed in
-        eq-tabulate t (length t₀) _ shown.same shown.entry
+    module _ (pos : 0 < stride) (whole : length t₀ ≡ stride * suc d) where
+      pub passes_done : length t ≤ low → t ≡ tabulate (length t₀) (lined (newton (2 ^ 64)) stride d (at t₀))
+      passes_done h =
+          let enough : d ≤ r.count = le_of_suc-le-suc (le_of_mul-le-mul_left (rw (← r.place, ← whole, ← same) h) pos) in
+          let shown = newton_done pos whole enough r.passed in
+          eq-tabulate t (length t₀) _ shown.same shown.entry
 
-    -- where the last pass left only zeros, the others change nothing
-    pub passes_stop : ZeroFrom (low - stride) t → t ≡ tabulate (length t₀) (lined (newton (2 ^ 64)) stride d (at t₀))
-    passes_stop zeros =
-        let start : low - stride ≡ stride * r.count = omega (arith, r.place) in
-        let shown = newton_done pos whole (le-add_right d r.count) (stays pos d (rw start at zeros) r.passed) in
-        eq-tabulate t (length t₀) _ shown.same shown.entry
+      -- where the last pass left only zeros, the others change nothing
+      pub passes_stop : ZeroFrom (low - stride) t → t ≡ tabulate (length t₀) (lined (newton (2 ^ 64)) stride d (at t₀))
+      passes_stop zeros =
+          let start : low - stride ≡ stride * r.count = omega (arith, r.place) in
+          let shown = newton_done pos whole (le-add_right d r.count) (stays pos d (rw start at zeros) r.passed) in
+          eq-tabulate t (length t₀) _ shown.same shown.entry

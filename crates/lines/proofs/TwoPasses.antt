@@ -1,14 +1,12 @@
 -- The loops of a single line, which take two passes at once. Below the place that is reached the line is two passes further; the number before it,
 -- and that number one pass further, are kept.
-use Rattle.std.proofs.Common.{◌≡◌, ℕ, suc, ◌+◌, ◌-◌, ◌*◌, ◌^◌, ◌<◌, ◌≤◌, List, length, set, sym, refl, ap, ◌∙◌, ap₂, le_trans, le_refl, lt_of_lt_of_le, le-add_right, lt_irrefl, add-one, arith, length-set}
-use Rattle.meaning.specs.Tables.{tabulate, at}
-use Rattle.meaning.specs.Differences.{minus, newton}
+use Rattle.std.proofs.Common.{◌≡◌, ℕ, suc, ◌+◌, ◌-◌, ◌^◌, ◌<◌, ◌≤◌, List, length, set, sym, refl, ap, ◌∙◌, ap₂, le_refl, add-one, arith, length-set}
+use Rattle.meaning.specs.Tables.{at}
+use Rattle.meaning.specs.Differences.{minus}
 use Rattle.lines.specs.FlatTables.{lined}
-use Rattle.theory.specs.Tables.{eq-tabulate}
 use Rattle.theory.specs.Congruence.{minus-lt}
 use Rattle.theory.specs.StepLaws.{minus_none}
-use Rattle.lines.specs.InPlace.{ZeroFrom, Shows, Parted, parted_up, shows_low, differenced, lined-differenced, lined-kept, NewtonPassed, newton-start, newton_done}
-use Rattle.lines.proofs.NothingLeft.{stays}
+use Rattle.lines.specs.InPlace.{Shows, Parted, parted_up, differenced, lined-differenced, lined-kept, NewtonPassed}
 
 -- index j of the line f after q passes
 abbrev pub after : ℕ → ℕ → (ℕ → ℕ) → ℕ → ℕ
@@ -66,9 +64,6 @@ module _ (d p : ℕ) (f : ℕ → ℕ) (n : ℕ) (t : List ℕ) where
       difference-is : difference ≡ after (suc p) d f (suc last)
       difference-is = e ∙ ap₂ (minus (2 ^ 64)) here r.number_eq ∙ sym (next_after d p f last l)
 
-  pub reached_done : {number once last : ℕ} → Reached d p f n t number once last → n ≤ suc last → NewtonPassed (2 ^ 64) 1 d f n (suc (suc p)) t
-  reached_done r h = record { shows = shows_low r.parted (λ j l q. absurd (lt_irrefl _ (lt_of_lt_of_le q (le_trans h l)))) }
-
 -- the same for every line that the table may be in the middle of; place i is next
 pub record Twice (low : ℕ) (t₀ t : List ℕ) (number once i : ℕ) : Type 0 where
   pub same : length t ≡ length t₀
@@ -106,54 +101,3 @@ module _ (low : ℕ) (t₀ : List ℕ) where
             (reached-step d p f (length t₀) t (r.reached d p f k s) (omega (arith, r.above, k)) (omega (arith, h, r.same, r.place))
             difference v (rw r.place at e) e');
       }
-
-  pub twice_done : (t : List ℕ) (number once i : ℕ) → Twice low t₀ t number once i → length t ≤ i
-      → (d p : ℕ) (f : ℕ → ℕ) → low ≡ suc p → NewtonPassed (2 ^ 64) 1 d f (length t₀) p t₀ → NewtonPassed (2 ^ 64) 1 d f (length t₀) (suc (suc p)) t
-  twice_done t number once i r h d p f k s = reached_done d p f (length t₀) t (r.reached d p f k s) (omega (arith, h, r.same, r.place))
-
--- ---- all passes, two at a time
-
--- the next two passes begin at place `low`
-pub record Pairs (t₀ t : List ℕ) (low : ℕ) : Type 0 where
-  pub same : length t ≡ length t₀
-  pub count : ℕ
-  pub place : low ≡ suc count
-  pub passed : (d : ℕ) → NewtonPassed (2 ^ 64) 1 d (at t₀) (length t₀) count t
-
-module _ (t₀ : List ℕ) where
-  pub pairs_start : Pairs t₀ t₀ 1
-  pairs_start = record { same = refl; count = 0; place = refl; passed = λ d. newton-start (2 ^ 64) 1 d t₀ }
-
-  pub pairs_step : (t t' : List ℕ) (low : ℕ) → Pairs t₀ t low
-      → ((d p : ℕ) (f : ℕ → ℕ) → low ≡ suc p → NewtonPassed (2 ^ 64) 1 d f (length t) p t → NewtonPassed (2 ^ 64) 1 d f (length t) (suc (suc p)) t')
-      → Pairs t₀ t' (low + 2)
-  pairs_step t t' low r done =
-      record {
-        same = (passed 0).shows.same;
-        count = suc (suc r.count);
-        place = omega (arith, r.place);
-        passed = passed;
-      }
-    where
-      passed : (d : ℕ) → NewtonPassed (2 ^ 64) 1 d (at t₀) (length t₀) (suc (suc r.count)) t'
-      passed d = rw r.same at (done d r.count (at t₀) r.place (rw r.same (r.passed d)))
-
-  pub pairs_done : (t : List ℕ) (low : ℕ) → Pairs t₀ t low → length t ≤ low → (d : ℕ) → length t₀ ≡ suc d
-      → t ≡ tabulate (length t₀) (lined (newton (2 ^ 64)) 1 d (at t₀))
-  pairs_done t low r h d whole =
-      let shown = newton_done (omega arith) (omega (arith, whole)) (omega (arith, h, whole, r.same, r.place)) (r.passed d) in
-      eq-tabulate t (length t₀) _ shown.same shown.entry
-
-  -- where the last pass left only zeros, the others change nothing
-  pub pairs_stop : (t : List ℕ) (low : ℕ) → Pairs t₀ t low → ZeroFrom (low - 1) t → (d : ℕ) → length t₀ ≡ suc d
-      → t ≡ tabulate (length t₀) (lined (newton (2 ^ 64)) 1 d (at t₀))
-  pairs_stop t low r zeros d whole =
-      let start : low - 1 ≡ 1 * r.count = omega (arith, r.place) in
-      let shown = newton_done (omega arith) (omega (arith, whole)) (le-add_right d r.count) (stays (omega arith) d (rw start at zeros) (r.passed d)) in
-      eq-tabulate t (length t₀) _ shown.same shown.entry
-
--- a block of stride 1 is a single line
-pub block_of_line : (stride d : ℕ) (t₀ t : List ℕ) → stride ≡ 1 → length t₀ ≡ stride * suc d
-    → ((e : ℕ) → length t₀ ≡ suc e → t ≡ tabulate (length t₀) (lined (newton (2 ^ 64)) 1 e (at t₀)))
-    → t ≡ tabulate (length t₀) (lined (newton (2 ^ 64)) stride d (at t₀))
-block_of_line stride d t₀ t one whole done = rw one (done d (omega (arith, (rw one at whole))))

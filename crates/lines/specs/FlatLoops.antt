@@ -2,12 +2,10 @@
 -- variables, each of which may have a transform of its own. A block is a part of the table, and comes back transformed. The loop over the variables keeps
 -- what is left to do: done to what is there, it gives what was asked.
 use Rattle.std.specs.Prelude.{◌≡◌, ℕ, zero, suc, ◌+◌, ◌-◌, ◌*◌, ◌%◌, ◌<◌, ◌≤◌, List, [], ◌∷◌, length, drop, refl}
-use Rattle.std.proofs.Math.Path.{sym, ap, fun_ext}
-use Rattle.std.proofs.Common.{◌∙◌, zero-le, lt_irrefl, zero-lt-suc, add-zero, mul-pos, mul_comm, add-one, drop-cons}
-use Rattle.std.proofs.Math.Nat.{mul-one, mul-mod_left}
-use native.Mathlib.Omega.{arith}
+use Rattle.std.proofs.Math.Path.{fun_ext}
+use Rattle.std.proofs.Common.{sym, ap, arith, ◌∙◌, zero-le, lt_irrefl, zero-lt-suc, add-zero, mul-pos, mul_comm, add-one, drop-cons, mul-one, drop_of_length-le}
+use Rattle.std.proofs.Math.Nat.{mul-mod_left}
 use Rattle.std.proofs.Math.Arith.{digits_mod}
-use Rattle.std.proofs.Math.ListN.{drop_of_length-le}
 use Rattle.meaning.specs.Tables.{tabulate, at}
 use Rattle.meaning.specs.Boxes.{cells, cell, digits, along}
 use Rattle.theory.specs.Tables.{Filled, filled_start, filled_done, length-tabulate, at-tabulate, eq-tabulate, tabulate_cong}
@@ -112,7 +110,8 @@ module _ (lines : ℕ → Line) (local : (i : ℕ) → Local (lines i)) (ds : Li
       block_divides = ap (◌% (s * suc (at ds i))) count ∙ mul-mod_left _ _
 
       -- variable i done
-      pub variables_step : (t' : List ℕ) → t' ≡ tabulate (length t) (blocked (lines i) s (at ds i) (at t)) → Variables lines ds goal n t' (i + 1) (s * suc (at ds i))
+      pub variables_step : (t' : List ℕ) → t' ≡ tabulate (length t) (blocked (lines i) s (at ds i) (at t))
+          → Variables lines ds goal n t' (i + 1) (s * suc (at ds i))
       variables_step t' e =
           let d = at ds i in
           let long : length t' ≡ length t = ap length e ∙ length-tabulate _ _ in
@@ -161,7 +160,8 @@ walk_each lines ds t = tabulate_cong (length t) _ _ (λ n p. strided-one lines d
 
 -- one line for all variables
 pub walk_same : (line : Line) (ds t : List ℕ)
-    → tabulate (length t) (λ n. along_each (λ l. line) ds (λ xs. at t (cell ds xs)) (digits ds n)) ≡ tabulate (length t) (λ n. along line ds (λ xs. at t (cell ds xs)) (digits ds n))
+    → tabulate (length t) (λ n. along_each (λ l. line) ds (λ xs. at t (cell ds xs)) (digits ds n))
+    ≡ tabulate (length t) (λ n. along line ds (λ xs. at t (cell ds xs)) (digits ds n))
 walk_same line ds t = tabulate_cong (length t) _ _ (λ n p. along_each_same line ds (λ xs. at t (cell ds xs)) (digits ds n))
 
 -- with one transform for all

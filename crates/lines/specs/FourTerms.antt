@@ -1,9 +1,7 @@
 -- A line of degree 3, term by term: its change of nodes, computed. Both conversions leave the first and the last coefficient. Between them `middle` is the
 -- third one after pass 1 towards falling factorials, or after pass 2, the first one, towards powers.
 use Rattle.std.specs.Prelude.{◌≡◌, ℕ, zero, suc, ◌+◌, ◌*◌, ◌%◌, ◌^◌, ◌<◌, ◌≤◌, [], ◌∷◌, refl}
-use Rattle.std.proofs.Math.Path.{sym, ap}
-use Rattle.std.proofs.Common.{ap₂, ◌∙◌, one-mul, arith, pow_pos}
-use Rattle.std.proofs.Math.Nat.{mod-eq_of_lt}
+use Rattle.std.proofs.Common.{sym, ap, ap₂, ◌∙◌, one-mul, arith, pow_pos, mod-eq_of_lt}
 use Rattle.meaning.specs.Tables.{at}
 use Rattle.meaning.specs.Differences.{minus, newton, diffs, diff}
 use Rattle.meaning.specs.Stirling.{falling_line, power_line}

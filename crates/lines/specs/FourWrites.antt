@@ -1,8 +1,6 @@
 -- The four numbers of a line of degree 3, written to four places of a table: the first and the last one before the others.
 use Rattle.std.specs.Prelude.{◌≡◌, ℕ, ◌<◌, ◌≢◌, List, length, slice_set}
-use Rattle.std.proofs.Common.{◌∙◌}
-use Rattle.std.proofs.Math.ListN.{length-set}
-use Rattle.std.proofs.Math.Seq.{get_or-set_same, get_or-set_other}
+use Rattle.std.proofs.Common.{◌∙◌, length-set, get_or-set_same, get_or-set_other}
 use Rattle.meaning.specs.Tables.{at}
 
 module _ (t : List ℕ) (p q r s a b c d : ℕ) where

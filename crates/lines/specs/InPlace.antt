@@ -2,9 +2,9 @@
 -- over a line leads from the state after p passes to the state after one pass more. Newton's differences go from the highest index down: after p
 -- passes index e of a line v holds the difference of order min p e at e - p, which is v e at the start and the difference of order e at 0 at the
 -- end. The s interleaved lines of a block are `lined` of FlatTables.
-use Rattle.std.specs.Prelude.{◌≡◌, ℕ, zero, suc, ◌+◌, ◌-◌, ◌*◌, ◌/◌, ◌%◌, ◌<◌, ◌≤◌, min, ◌⊎◌, List, length, slice_set, refl}
-use Rattle.std.proofs.Common.{sym, ap, ap₂, ◌∙◌, inl, inr, suc-le-suc, lt_irrefl, lt_of_lt_of_le, not-suc-le-zero, add-zero, add-suc, le_refl, eq-or-lt_of_le, le_of_suc-le-suc, div-add-mod', le-div_iff_mul-le, div-lt_iff_lt-mul, mul_comm, sub-eq-zero_of_le, add-one, sub-one, arith, length-set, get_or-set_same, get_or-set_other}
-use Rattle.std.proofs.Math.Nat.{add-mod_right, add-div_right, suc-min-suc, suc-sub-suc, le_trans, zero-min, sub-zero, min-eq_left, min-eq_right}
+use Rattle.std.specs.Prelude.{◌≡◌, ℕ, zero, suc, ◌+◌, ◌-◌, ◌*◌, ◌/◌, ◌%◌, ◌^◌, ◌<◌, ◌≤◌, min, ◌⊎◌, List, length, slice_set, refl}
+use Rattle.std.proofs.Common.{sym, ap, ap₂, ◌∙◌, inl, inr, suc-le-suc, lt_irrefl, lt_of_lt_of_le, not-suc-le-zero, add-zero, add-suc, le_refl, eq-or-lt_of_le, le_of_suc-le-suc, div-add-mod', le-div_iff_mul-le, div-lt_iff_lt-mul, mul_comm, sub-eq-zero_of_le, add-one, sub-one, arith, length-set, get_or-set_same, get_or-set_other, le_trans}
+use Rattle.std.proofs.Math.Nat.{add-mod_right, add-div_right, suc-min-suc, suc-sub-suc, zero-min, sub-zero, min-eq_left, min-eq_right}
 use Rattle.std.proofs.Math.Decide.{dec_le}
 use Rattle.std.proofs.Math.Arith.{digits_div, digits_mod}
 use Rattle.meaning.specs.Tables.{at}
@@ -212,3 +212,12 @@ module _ {m s d : ℕ} {f : ℕ → ℕ} {n : ℕ} {t : List ℕ} where
     where
       low : (i : ℕ) → i < n → i / s ≤ p
       low i q = le_trans (le_of_suc-le-suc (index_lt s pos (suc d) i (rw whole at q))) enough
+
+-- the pass that ends at place `low` is made, and that one and the next one are, over whatever lines the part may be in the middle of
+abbrev pub PassDone : (s low : ℕ) → List ℕ → List ℕ → Type 0
+PassDone s low t u =
+    (d p : ℕ) (f : ℕ → ℕ) → low ≡ s * suc p → NewtonPassed (2 ^ 64) s d f (length t) p t → NewtonPassed (2 ^ 64) s d f (length t) (suc p) u
+
+abbrev pub PairDone : (s low : ℕ) → List ℕ → List ℕ → Type 0
+PairDone s low t u =
+    (d p : ℕ) (f : ℕ → ℕ) → low ≡ s * suc p → NewtonPassed (2 ^ 64) s d f (length t) p t → NewtonPassed (2 ^ 64) s d f (length t) (suc (suc p)) u

@@ -1,10 +1,9 @@
 -- The lines of a first variable: d + 1 neighbours each, one line after the other. A loop takes a line a turn.
 use Rattle.std.specs.Prelude.{◌≡◌, ℕ, zero, suc, ◌+◌, ◌-◌, ◌*◌, ◌%◌, ◌^◌, ◌<◌, ◌≤◌, ◌≢◌, ◌⊎◌, List, [], ◌∷◌, length, slice_set, refl}
-use Rattle.std.proofs.Common.{sym, ◌∙◌, zero-le, add-one, inl, inr, eq-or-lt_of_le, le_of_suc-le-suc, add-zero, one-mul, mul-one, div-one, le_refl}
-use Rattle.std.proofs.Math.Path.{ap, fun_ext}
+use Rattle.std.proofs.Common.{arith, sym, ◌∙◌, zero-le, add-one, inl, inr, eq-or-lt_of_le, le_of_suc-le-suc, add-zero, one-mul, mul-one, div-one, le_refl, ap}
+use Rattle.std.proofs.Math.Path.{fun_ext}
 use Rattle.std.proofs.Math.Nat.{mod-one}
-use native.Mathlib.Omega.{arith}
-use native.Mathlib.Decide.{dec_lt}
+use Rattle.std.proofs.Math.Decide.{dec_lt}
 use Rattle.std.proofs.Math.Arith.{digits_mod}
 use Rattle.meaning.specs.Tables.{tabulate, at}
 use Rattle.meaning.specs.Differences.{minus, diff, diffs, newton}

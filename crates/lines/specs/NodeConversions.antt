@@ -4,20 +4,17 @@
 -- powers: a pass with differences -i takes the line b with b i + i b (i + 1) = c i, and summing by parts is the recurrence of the first kind. Pass 0 of
 -- either conversion adds nothing, in the order of passes that it runs by, and is left out.
 use Rattle.std.specs.Prelude.{◌≡◌, ℕ, zero, suc, ◌+◌, ◌*◌, ◌%◌, ◌<◌, ◌≤◌, ◌⊎◌, List, length, refl}
-use Rattle.std.proofs.Math.Path.{sym, ap}
-use Rattle.std.proofs.Common.{ap₂, ◌∙◌, inl, inr, zero-le, not-suc-le-zero, le_of_suc-le-suc, le_refl, eq-or-lt_of_le, zero-lt-suc, zero-add, mod-lt, arith}
-use Rattle.std.proofs.Math.Nat.{zero-mul, sub-zero, mod_self, zero-mod}
+use Rattle.std.proofs.Common.{sym, ap, ap₂, ◌∙◌, inl, inr, zero-le, not-suc-le-zero, le_of_suc-le-suc, le_refl, eq-or-lt_of_le, zero-lt-suc, zero-add, mod-lt, arith, zero-mul}
+use Rattle.std.proofs.Math.Nat.{sub-zero, mod_self, zero-mod}
 use Rattle.meaning.specs.Tables.{at}
 use Rattle.meaning.specs.Sums.{sum}
 use Rattle.meaning.specs.Differences.{minus}
 use Rattle.meaning.specs.Stirling.{stirling2, stirling1, falling_line, power_line}
-use Rattle.theory.specs.Congruence.{Cong, cong_of_eq, cong_sym, cong_trans, cong_add-left, cong_add_right, cong_mul-left, cong_mul_right}
-use Rattle.theory.specs.Congruence.{mod-cong, eq_of_cong, minus-add, minus-lt, cong_minus_of_add}
+use Rattle.theory.specs.Congruence.{Cong, cong_of_eq, cong_sym, cong_trans, cong_add-left, cong_add_right, cong_mul-left, cong_mul_right, mod-cong, eq_of_cong, minus-add, minus-lt, cong_minus_of_add}
 use Rattle.theory.specs.Sums.{sum_last, sum_eq, sum_cong, sum-add, sum-mul-left, sum-zero}
 use Rattle.theory.specs.Integers.{residue_pos}
 use Rattle.theory.specs.StirlingNumbers.{signed, stirling2-zero, stirling2_self, signed-zero, signed-suc-zero, signed-step}
-use Rattle.theory.specs.Nodes.{passed, rewritten, node_line, passed-step, passed_top}
-use Rattle.theory.specs.Nodes.{rewritten_top, rewritten_next}
+use Rattle.theory.specs.Nodes.{passed, rewritten, node_line, passed-step, passed_top, rewritten_top, rewritten_next}
 use Rattle.lines.specs.FlatTables.{lined}
 use Rattle.lines.specs.InPlace.{Shows}
 use Rattle.lines.specs.NodePasses.{Passed, passed_of_table, pass_idle, passes_done, shows_lined}
@@ -180,6 +177,7 @@ module _ {m s d : ℕ} {f : ℕ → ℕ} {n : ℕ} {t : List ℕ} (pos : 0 < s) 
 
   -- to powers, pass 0 is none either: with it left or not, the block has powers
   pub shows_powers : {k : ℕ} → 0 < m → k ≤ 1 → Opened m (to_powers m) s d f n k t → Shows (lined (power_line m) s d f) n t
-  shows_powers {k = zero} positive l r = shows_lined (node_line m (to_powers m)) (power_line m) f pos whole (node_line_power positive d) (opens_done pos whole r)
+  shows_powers {k = zero} positive l r =
+      shows_lined (node_line m (to_powers m)) (power_line m) f pos whole (node_line_power positive d) (opens_done pos whole r)
   shows_powers {k = suc zero} positive l r = shows_powers {k = zero} positive zero-le (open_idle pos whole (λ i. minus-zero m) r)
   shows_powers {k = suc (suc k)} positive l r = absurd (omega arith)

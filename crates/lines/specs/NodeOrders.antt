@@ -4,8 +4,7 @@
 -- the pass, so that no turn waits for the one before it. Both orders give the same numbers, exactly and for any differences δ (`expanded-eq-rewritten`).
 -- The conversion to falling factorials runs by the first order, where its differences are constant in a pass, the conversion to powers by this one.
 use Rattle.std.specs.Prelude.{◌≡◌, ℕ, zero, suc, ◌+◌, ◌-◌, ◌*◌, ◌/◌, ◌%◌, ◌<◌, ◌≤◌, ◌⊎◌, List, length, slice_set, refl}
-use Rattle.std.proofs.Math.Path.{sym, ap}
-use Rattle.std.proofs.Common.{ap₂, ◌∙◌, inl, inr, not-suc-le-zero, le_of_suc-le-suc, le_refl, le_trans, eq-or-lt_of_le, add-one, arith}
+use Rattle.std.proofs.Common.{sym, ap, ap₂, ◌∙◌, inl, inr, not-suc-le-zero, le_of_suc-le-suc, le_refl, le_trans, eq-or-lt_of_le, add-one, arith}
 use Rattle.std.proofs.Math.Nat.{suc-sub-suc, sub-zero}
 use Rattle.std.proofs.Math.Decide.{dec_le}
 use Rattle.meaning.specs.Tables.{at}

@@ -3,8 +3,7 @@
 -- d passes the line is `rewritten`. All of this is exact, for any differences δ. A block of s interleaved lines is `lined` of FlatTables: the table shows k
 -- passes, or k + 1 from some place on (`Passed`, `Passing`). Both Stirling conversions and the datum are these passes with differences of their own.
 use Rattle.std.specs.Prelude.{◌≡◌, ℕ, zero, suc, ◌+◌, ◌-◌, ◌*◌, ◌/◌, ◌%◌, ◌<◌, ◌≤◌, List, length, slice_set, refl}
-use Rattle.std.proofs.Math.Path.{sym, ap}
-use Rattle.std.proofs.Common.{ap₂, ◌∙◌, not-suc-le-zero, le_of_suc-le-suc, lt_of_lt_of_le, mod-eq_of_lt, div-add-mod', sub-one, arith}
+use Rattle.std.proofs.Common.{sym, ap, ap₂, ◌∙◌, not-suc-le-zero, le_of_suc-le-suc, lt_of_lt_of_le, mod-eq_of_lt, div-add-mod', sub-one, arith}
 use Rattle.std.proofs.Math.Nat.{suc-sub-suc, sub-zero}
 use Rattle.std.proofs.Math.Decide.{dec_le}
 use Rattle.meaning.specs.Tables.{at}

@@ -1,8 +1,6 @@
 -- A block of lines of degree 3: four rows of s numbers. A loop takes the lines by their offset in the rows, one a turn.
 use Rattle.std.specs.Prelude.{◌≡◌, ℕ, zero, suc, ◌+◌, ◌*◌, ◌/◌, ◌%◌, ◌<◌, ◌≤◌, ◌≢◌, ◌⊎◌, List, length, [], ◌∷◌, refl}
-use Rattle.std.proofs.Math.Path.{sym, ap}
-use Rattle.std.proofs.Common.{◌∙◌, inl, inr, add-one, eq-or-lt_of_le, le_of_suc-le-suc, lt_of_lt_of_le, not-suc-le-zero, mod-lt, div-add-mod'}
-use native.Mathlib.Omega.{arith}
+use Rattle.std.proofs.Common.{sym, ap, arith, ◌∙◌, inl, inr, add-one, eq-or-lt_of_le, le_of_suc-le-suc, lt_of_lt_of_le, not-suc-le-zero, mod-lt, div-add-mod'}
 use Rattle.meaning.specs.Tables.{tabulate, at}
 use Rattle.theory.specs.Tables.{eq-tabulate}
 use Rattle.lines.specs.FlatTables.{Local, lined}
@@ -20,17 +18,21 @@ module _ (line : Line) (s : ℕ) (t₀ : List ℕ) where
   pub rows_start : Rows line s t₀ t₀ 0
   rows_start = record { same = refl; done = λ x r h p. absurd (not-suc-le-zero p); kept = λ x r h p q. refl }
 
-  module _ (pos : 0 < s) (whole : length t₀ ≡ s * 4) where
+  module _ (whole : length t₀ ≡ s * 4) where
     -- all lines are done
     pub rows_done : (t : List ℕ) (i : ℕ) → Rows line s t₀ t i → s ≤ i → t ≡ tabulate (length t₀) (lined line s 3 (at t₀))
     rows_done t i r h =
         eq-tabulate t (length t₀) (lined line s 3 (at t₀)) r.same λ p l.
+        let pos : 0 < s = omega (arith, whole) in
         let low : p % s < s = mod-lt p pos in
         let row : p / s ≤ 3 = le_of_suc-le-suc (index_lt s pos 4 p (rw whole at l)) in
         rw (div-add-mod' p s) at (r.done (p / s) (p % s) row (lt_of_lt_of_le low h) low)
 
     -- one line
     module _ (t : List ℕ) (i : ℕ) (r : Rows line s t₀ t i) (h : i < s) where
+      pos : 0 < s
+      pos = omega (arith, h)
+
       -- its numbers
       abbrev number : ℕ → ℕ
       number x = at t₀ (x * s + i)

@@ -1,19 +1,18 @@
 // Newton's differences of the lines of a block, in place and modulo 2^64, pass by pass.
-ghost use Rattle.std.specs.Prelude.{◌≡◌, ℕ, suc, ◌+◌, ◌*◌, ◌%◌, ◌^◌, ◌<◌, ◌≤◌, true, length};
+ghost use Rattle.std.specs.Prelude.{◌≡◌, ℕ, suc, ◌+◌, ◌%◌, ◌^◌, ◌<◌, ◌≤◌, true, length};
 ghost use Rattle.meaning.specs.Tables.{tabulate, at};
 ghost use Rattle.meaning.specs.Differences.{newton};
 ghost use Rattle.lines.specs.FlatTables.{lined, blocked};
-ghost use Rattle.lines.specs.InPlace.{NewtonPassed, ZeroFrom, newton_local};
+ghost use Rattle.lines.specs.Blocks.{size, block_of};
+ghost use Rattle.lines.specs.InPlace.{PassDone, PairDone, ZeroFrom, newton_local};
 ghost use Rattle.lines.specs.TransformLaws.{newton_of_mul};
 
-use crate::{FourTransform, LineTransform};
+use crate::{Block, FourTransform, LineTransform};
 
 // One pass over a block whose lines have the given stride: from the highest number down to place `low`, each less the one before it on its line.
 fn difference_pass(part: &mut [u64], stride: usize, low: usize)
     requires { (0 < stride) × (stride ≤ low) }
-    ensures { (d p : ℕ) (f : ℕ → ℕ) → low ≡ stride * suc p
-        → NewtonPassed (2 ^ 64) stride d f (length part.old) p part.old
-        → NewtonPassed (2 ^ 64) stride d f (length part.old) (suc p) part.new }
+    ensures { PassDone stride low part.old part.new }
 {
     for i in (low..part.len()).rev() {
         part[i] = arith::wrapping_sub(part[i], part[i - stride]);
@@ -24,9 +23,7 @@ fn difference_pass(part: &mut [u64], stride: usize, low: usize)
 // lowest index, which only the first pass reaches, come last.
 fn difference_pair(part: &mut [u64], stride: usize, low: usize)
     requires { (0 < stride) × (stride ≤ low) × (low + stride ≤ length part.old) }
-    ensures { (d p : ℕ) (f : ℕ → ℕ) → low ≡ stride * suc p
-        → NewtonPassed (2 ^ 64) stride d f (length part.old) p part.old
-        → NewtonPassed (2 ^ 64) stride d f (length part.old) (suc (suc p)) part.new }
+    ensures { PairDone stride low part.old part.new }
 {
     let twice = stride + stride;
     // Never so: said for the compiler, which then knows that twice a stride is not negative.
@@ -48,9 +45,7 @@ fn difference_pair(part: &mut [u64], stride: usize, low: usize)
 // `number` is what it had before the two passes, and `once` what the second one takes away.
 fn difference_twice(part: &mut [u64], low: usize)
     requires { (0 < low) × (low < length part.old) }
-    ensures { (d p : ℕ) (f : ℕ → ℕ) → low ≡ suc p
-        → NewtonPassed (2 ^ 64) 1 d f (length part.old) p part.old
-        → NewtonPassed (2 ^ 64) 1 d f (length part.old) (suc (suc p)) part.new }
+    ensures { PairDone 1 low part.old part.new }
 {
     let mut number = part[low - 1];
     let mut once = 0;
@@ -91,25 +86,27 @@ fn difference_line(part: &mut [u64])
     }
 }
 
-// Every line of one block of stride (d + 1) numbers, pass by pass.
-fn difference_short(part: &mut [u64], stride: usize, d: u8)
-    requires { (0 < stride) × (length part.old ≡ stride * suc d) }
-    ensures { part.new ≡ tabulate (length part.old) (lined (newton (2 ^ 64)) stride d (at part.old)) }
+// Every line of a block, pass by pass.
+fn difference_short(part: &mut [u64], block: Block)
+    requires { length part.old ≡ size block }
+    ensures { part.new ≡ block_of (newton (2 ^ 64)) block part.old }
 {
     // An index by hand: short blocks would pay for `step_by`.
-    let mut low = stride;
+    let mut low = block.stride;
     while low < part.len() {
-        difference_pass(part, stride, low);
-        low += stride;
+        difference_pass(part, block.stride, low);
+        low += block.stride;
     }
 }
 
-// The same, two passes at a time, as long as anything is left. It stands by itself, so that short blocks do not pay for long ones.
+// The same, two passes at a time, as long as anything is left. It stands by itself, so that short blocks do not pay for long ones. One function for this loop
+// and that of a single line would take a trait with two instances and a function around it that stands by itself, for six lines.
 #[inline(never)]
-fn difference_long(part: &mut [u64], stride: usize, d: u8)
-    requires { (0 < stride) × (length part.old ≡ stride * suc d) }
-    ensures { part.new ≡ tabulate (length part.old) (lined (newton (2 ^ 64)) stride d (at part.old)) }
+fn difference_long(part: &mut [u64], block: Block)
+    requires { length part.old ≡ size block }
+    ensures { part.new ≡ block_of (newton (2 ^ 64)) block part.old }
 {
+    let stride = block.stride;
     for low in (stride..part.len()).step_by(stride + stride) {
         difference_pair(part, stride, low);
         if nothing_left(part, low + stride) {
@@ -119,23 +116,23 @@ fn difference_long(part: &mut [u64], stride: usize, d: u8)
 }
 
 // The same, by what is fastest.
-fn difference_block(part: &mut [u64], stride: usize, d: u8)
-    requires { (0 < stride) × (length part.old ≡ stride * suc d) }
-    ensures { part.new ≡ tabulate (length part.old) (lined (newton (2 ^ 64)) stride d (at part.old)) }
+fn difference_block(part: &mut [u64], block: Block)
+    requires { length part.old ≡ size block }
+    ensures { part.new ≡ block_of (newton (2 ^ 64)) block part.old }
 {
     // Never so: said for the compiler, which then knows that a stride is not negative.
-    if 0x1000_0000_0000_0000 <= stride {
+    if 0x1000_0000_0000_0000 <= block.stride {
         return;
     }
-    if stride == 1 {
+    if block.stride == 1 {
         difference_line(part);
         return;
     }
-    if d < 7 {
-        difference_short(part, stride, d);
+    if block.degree < 7 {
+        difference_short(part, block);
         return;
     }
-    difference_long(part, stride, d);
+    difference_long(part, block);
 }
 
 // The pairs of neighbours of a table, which are the lines of a first variable of degree 1.
@@ -152,7 +149,7 @@ fn difference_twos(table: &mut [u64])
 }
 
 // Newton's differences at 0.
-#[derive(Clone, Copy)]
+#[derive(Clone, Copy, Debug, PartialEq, Eq)]
 pub struct Differences;
 
 impl FourTransform for Differences {
@@ -191,7 +188,7 @@ impl LineTransform for Differences {
         true
     }
 
-    fn block(self, part: &mut [u64], stride: usize, degree: u8) {
-        difference_block(part, stride, degree);
+    fn block(self, part: &mut [u64], block: Block) {
+        difference_block(part, block);
     }
 }

@@ -1,23 +1,23 @@
 // From powers to falling factorials: the conversion of the lines of a block, in place and modulo 2^64, as a change of nodes.
-ghost use Rattle.std.specs.Prelude.{◌≡◌, ℕ, suc, ◌+◌, ◌*◌, ◌^◌, ◌<◌, ◌≤◌, length};
+ghost use Rattle.std.specs.Prelude.{◌≡◌, ℕ, suc, ◌+◌, ◌^◌, ◌<◌, ◌≤◌, length};
 ghost use Rattle.meaning.specs.Tables.{tabulate, at};
 ghost use Rattle.meaning.specs.Stirling.{falling_line};
 ghost use Rattle.lines.specs.FlatTables.{lined};
+ghost use Rattle.lines.specs.Blocks.{size, block_of, Passes};
 ghost use Rattle.lines.specs.NodePasses.{Passed};
 ghost use Rattle.lines.specs.NodeConversions.{to_falling};
 ghost use Rattle.lines.specs.Conversions.{falling_line_local};
 ghost use Rattle.lines.specs.TransformLaws.{falling_of_mul};
 
-use crate::{FourTransform, LineTransform};
+use crate::{Block, FourTransform, LineTransform};
 
 // A pass over a block, towards falling factorials: every coefficient from index `pass` on, the highest first, gets `pass` times the next one added.
 // Two a turn, by `while`: the last one may be left over.
-fn divide(part: &mut [u64], stride: usize, degree: usize, pass: usize)
-    requires { (0 < stride) × (0 < pass) × (pass ≤ degree) × (length part.old ≡ stride * suc degree) }
-    ensures { (f : ℕ → ℕ)
-        → Passed (2 ^ 64) to_falling stride degree f (length part.old) pass part.old
-        → Passed (2 ^ 64) to_falling stride degree f (length part.old) (suc pass) part.new }
+fn divide(part: &mut [u64], block: Block, pass: usize)
+    requires { (0 < pass) × (pass ≤ block.degree) × (length part.old ≡ size block) }
+    ensures { Passes to_falling block pass (suc pass) part.old part.new }
 {
+    let stride = block.stride;
     let factor = pass as u64;
     let end = stride * pass;
     let mut i = part.len() - stride;
@@ -55,12 +55,12 @@ fn divide_twice(part: &mut [u64], pass: usize)
 }
 
 // All passes over a block, the first one first: its lines go from powers to falling factorials.
-fn divide_passes(part: &mut [u64], stride: usize, degree: usize)
-    requires { (0 < stride) × (length part.old ≡ stride * suc degree) }
-    ensures { part.new ≡ tabulate (length part.old) (lined (falling_line (2 ^ 64)) stride degree (at part.old)) }
+fn divide_passes(part: &mut [u64], block: Block)
+    requires { length part.old ≡ size block }
+    ensures { part.new ≡ block_of (falling_line (2 ^ 64)) block part.old }
 {
-    for pass in 1..degree {
-        divide(part, stride, degree, pass);
+    for pass in 1..block.degree {
+        divide(part, block, pass);
     }
 }
 
@@ -75,23 +75,23 @@ fn divide_line(part: &mut [u64], degree: usize)
 }
 
 // The same, by what is fastest.
-fn divide_block(part: &mut [u64], stride: usize, degree: usize)
-    requires { (0 < stride) × (length part.old ≡ stride * suc degree) }
-    ensures { part.new ≡ tabulate (length part.old) (lined (falling_line (2 ^ 64)) stride degree (at part.old)) }
+fn divide_block(part: &mut [u64], block: Block)
+    requires { length part.old ≡ size block }
+    ensures { part.new ≡ block_of (falling_line (2 ^ 64)) block part.old }
 {
     // Never so: said for the compiler, which then knows that a stride is not negative.
-    if 0x1000_0000_0000_0000 <= stride {
+    if 0x1000_0000_0000_0000 <= block.stride {
         return;
     }
-    if stride == 1 {
-        divide_line(part, degree);
+    if block.stride == 1 {
+        divide_line(part, block.degree);
         return;
     }
-    divide_passes(part, stride, degree);
+    divide_passes(part, block);
 }
 
 // From the coefficients of powers to those of falling factorials.
-#[derive(Clone, Copy)]
+#[derive(Clone, Copy, Debug, PartialEq, Eq)]
 pub struct ToFalling;
 
 impl FourTransform for ToFalling {
@@ -124,7 +124,7 @@ impl LineTransform for ToFalling {
         false
     }
 
-    fn block(self, part: &mut [u64], stride: usize, degree: u8) {
-        divide_block(part, stride, degree as usize);
+    fn block(self, part: &mut [u64], block: Block) {
+        divide_block(part, block);
     }
 }

@@ -24,7 +24,7 @@ fn four_row<T: FourTransform>(transform: T, part: &mut [u64], stride: usize, i: 
 
 // The lines of a block, one a turn.
 fn rows_by_one<T: FourTransform>(transform: T, part: &mut [u64], stride: usize)
-    requires { (0 < stride) × (length part.old ≡ stride * 4) }
+    requires { length part.old ≡ stride * 4 }
     ensures { part.new ≡ tabulate (length part.old) (lined (T.line transform (2 ^ 64)) stride 3 (at part.old)) }
 {
     // Never so, as the next one: said for the compiler, which then knows that the distances are not negative.
@@ -41,7 +41,7 @@ fn rows_by_one<T: FourTransform>(transform: T, part: &mut [u64], stride: usize)
 
 // Two a turn, by `while`: the last one may be left over.
 fn rows_by_two<T: FourTransform>(transform: T, part: &mut [u64], stride: usize)
-    requires { (0 < stride) × (length part.old ≡ stride * 4) }
+    requires { length part.old ≡ stride * 4 }
     ensures { part.new ≡ tabulate (length part.old) (lined (T.line transform (2 ^ 64)) stride 3 (at part.old)) }
 {
     let mut i = 0;
@@ -57,7 +57,7 @@ fn rows_by_two<T: FourTransform>(transform: T, part: &mut [u64], stride: usize)
 
 // The lines of a block, by what is fastest.
 pub(crate) fn four_rows<T: FourTransform>(transform: T, part: &mut [u64], stride: usize)
-    requires { (0 < stride) × (length part.old ≡ stride * 4) }
+    requires { length part.old ≡ stride * 4 }
     ensures { part.new ≡ tabulate (length part.old) (lined (T.line transform (2 ^ 64)) stride 3 (at part.old)) }
 {
     if T::BY_TWOS {

@@ -5,15 +5,18 @@
 ghost use Rattle.std.specs.Prelude.{◌≡◌, ℕ, suc, ◌*◌, ◌%◌, ◌^◌, ◌<◌, ◌≤◌, cond, length, ◌==◌};
 ghost use Rattle.meaning.specs.Tables.{tabulate, at};
 ghost use Rattle.meaning.specs.Boxes.{cells};
-ghost use Rattle.lines.specs.FlatTables.{lined, blocked};
+ghost use Rattle.lines.specs.FlatTables.{blocked};
+ghost use Rattle.lines.specs.Blocks.{size, block_of};
 ghost use Rattle.lines.specs.Transforms.{transformed, transformed_each};
 
+mod block;
 mod differences;
 mod falling;
 mod fours;
 mod powers;
 mod transform;
 
+pub use block::Block;
 pub use differences::Differences;
 pub use falling::ToFalling;
 pub use powers::ToPowers;
@@ -39,14 +42,14 @@ pub fn has_box(table: &[u64], degrees: &[u8]) -> bool
 }
 
 // Every line of a block. Lines of degree 3 go without a loop.
-fn transform_block<T: LineTransform>(transform: T, part: &mut [u64], stride: usize, degree: u8)
-    requires { (0 < stride) × (length part.old ≡ stride * suc degree) }
-    ensures { part.new ≡ tabulate (length part.old) (lined (T.line transform (2 ^ 64)) stride degree (at part.old)) }
+fn transform_block<T: LineTransform>(transform: T, part: &mut [u64], block: Block)
+    requires { length part.old ≡ size block }
+    ensures { part.new ≡ block_of (T.line transform (2 ^ 64)) block part.old }
 {
-    if degree == 3 {
-        fours::four_rows(transform, part, stride);
+    if block.degree == 3 {
+        fours::four_rows(transform, part, block.stride);
     } else {
-        transform.block(part, stride, degree);
+        transform.block(part, block);
     }
 }
 
@@ -73,7 +76,11 @@ fn transform_variable<T: LineTransform>(
     ensures stride { result ≡ stride * suc degree }
     ensures leaves { table.new ≡ tabulate (length table.old) (blocked (T.line transform (2 ^ 64)) stride degree (at table.old)) }
 {
-    let size = stride * (degree as usize + 1);
+    let block = Block {
+        stride,
+        degree: degree as usize,
+    };
+    let size = stride * (block.degree + 1);
     if transform.leaves_lines(degree) {
         return size;
     }
@@ -84,7 +91,7 @@ fn transform_variable<T: LineTransform>(
     let mut from = 0;
     while size <= table.len() - from {
         let end = from + size;
-        transform_block(transform, &mut table[from..end], stride, degree);
+        transform_block(transform, &mut table[from..end], block);
         from = end;
     }
     size

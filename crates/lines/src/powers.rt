@@ -1,23 +1,20 @@
 // From falling factorials to powers: the conversion of the lines of a block, in place and modulo 2^64, as a change of nodes.
-ghost use Rattle.std.specs.Prelude.{◌≡◌, ℕ, suc, ◌*◌, ◌^◌, ◌<◌, ◌≤◌, length};
-ghost use Rattle.meaning.specs.Tables.{tabulate, at};
+ghost use Rattle.std.specs.Prelude.{◌≡◌, suc, ◌^◌, ◌<◌, ◌≤◌, length};
 ghost use Rattle.meaning.specs.Stirling.{power_line};
-ghost use Rattle.lines.specs.FlatTables.{lined};
-ghost use Rattle.lines.specs.NodeOrders.{Opened};
+ghost use Rattle.lines.specs.Blocks.{size, block_of, Opens};
 ghost use Rattle.lines.specs.NodeConversions.{to_powers};
 ghost use Rattle.lines.specs.Conversions.{power_line_local};
 ghost use Rattle.lines.specs.TransformLaws.{power_of_mul};
 
-use crate::{FourTransform, LineTransform};
+use crate::{Block, FourTransform, LineTransform};
 
 // A pass over a block, towards powers: every coefficient from index `pass` on, the lowest first, gets `pass` times the next one subtracted. Two a turn,
 // by `while`: the last one may be left over.
-fn undivide(part: &mut [u64], stride: usize, degree: usize, pass: usize)
-    requires { (0 < stride) × (0 < pass) × (pass ≤ degree) × (length part.old ≡ stride * suc degree) }
-    ensures { (f : ℕ → ℕ)
-        → Opened (2 ^ 64) (to_powers (2 ^ 64)) stride degree f (length part.old) (suc pass) part.old
-        → Opened (2 ^ 64) (to_powers (2 ^ 64)) stride degree f (length part.old) pass part.new }
+fn undivide(part: &mut [u64], block: Block, pass: usize)
+    requires { (0 < pass) × (pass ≤ block.degree) × (length part.old ≡ size block) }
+    ensures { Opens (to_powers (2 ^ 64)) block (suc pass) pass part.old part.new }
 {
+    let stride = block.stride;
     let factor = pass as u64;
     let last = part.len() - stride - 1;
     let mut i = stride * pass;
@@ -38,17 +35,17 @@ fn undivide(part: &mut [u64], stride: usize, degree: usize, pass: usize)
 // All passes over a block, the last one first: its lines go from falling factorials to powers. It stands by itself: moved into the loop over the blocks it
 // takes up to a tenth longer.
 #[inline(never)]
-fn undivide_passes(part: &mut [u64], stride: usize, degree: usize)
-    requires { (0 < stride) × (length part.old ≡ stride * suc degree) }
-    ensures { part.new ≡ tabulate (length part.old) (lined (power_line (2 ^ 64)) stride degree (at part.old)) }
+fn undivide_passes(part: &mut [u64], block: Block)
+    requires { length part.old ≡ size block }
+    ensures { part.new ≡ block_of (power_line (2 ^ 64)) block part.old }
 {
-    for pass in (1..degree).rev() {
-        undivide(part, stride, degree, pass);
+    for pass in (1..block.degree).rev() {
+        undivide(part, block, pass);
     }
 }
 
 // From the coefficients of falling factorials to those of powers.
-#[derive(Clone, Copy)]
+#[derive(Clone, Copy, Debug, PartialEq, Eq)]
 pub struct ToPowers;
 
 impl FourTransform for ToPowers {
@@ -81,7 +78,7 @@ impl LineTransform for ToPowers {
         false
     }
 
-    fn block(self, part: &mut [u64], stride: usize, degree: u8) {
-        undivide_passes(part, stride, degree as usize);
+    fn block(self, part: &mut [u64], block: Block) {
+        undivide_passes(part, block);
     }
 }

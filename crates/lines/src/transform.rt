@@ -1,10 +1,13 @@
 // What a transform of lines is.
-ghost use Rattle.std.specs.Prelude.{◌≡◌, ℕ, suc, ◌*◌, ◌%◌, ◌^◌, ◌<◌, ◌≤◌, true, cond, length};
+ghost use Rattle.std.specs.Prelude.{◌≡◌, ℕ, suc, ◌%◌, ◌^◌, ◌≤◌, true, cond, length};
 ghost use Rattle.meaning.specs.Tables.{tabulate, at};
 ghost use Rattle.theory.specs.AlongEach.{Line};
-ghost use Rattle.lines.specs.FlatTables.{lined, blocked, Local};
+ghost use Rattle.lines.specs.FlatTables.{blocked, Local};
+ghost use Rattle.lines.specs.Blocks.{size, block_of};
 ghost use Rattle.lines.specs.LowDegrees.{Leaves};
 ghost use Rattle.lines.specs.Transforms.{Words, OfMul};
+
+use crate::Block;
 
 // A transform of lines, with what it makes of four numbers modulo 2^64.
 pub trait FourTransform: Copy {
@@ -36,10 +39,10 @@ pub trait LineTransform: FourTransform {
         requires { (suc degree ≤ length table.old) × (length table.old % suc degree ≡ 0) }
         ensures { table.new ≡ cond result (tabulate (length table.old) (blocked (Self.line self (2 ^ 64)) 1 degree (at table.old))) table.old };
 
-    // Every line of a block of `stride` interleaved lines.
-    fn block(self, part: &mut [u64], stride: usize, degree: u8)
-        requires { (0 < stride) × (length part.old ≡ stride * suc degree) }
-        ensures { part.new ≡ tabulate (length part.old) (lined (Self.line self (2 ^ 64)) stride degree (at part.old)) };
+    // Every line of a block.
+    fn block(self, part: &mut [u64], block: Block)
+        requires { length part.old ≡ size block }
+        ensures { part.new ≡ block_of (Self.line self (2 ^ 64)) block part.old };
 }
 
 // A transform that is given by a number.

@@ -1,9 +1,9 @@
 -- The entries of a Stirling table, row by row: the corner, the left column, zeros above the diagonal, and every other entry from the row before.
 use Rattle.std.proofs.Common.{◌≡◌, ℕ, zero, suc, pred, ◌+◌, ◌-◌, ◌*◌, ◌/◌, ◌%◌, ◌^◌, ◌<◌, ◌≤◌, min, List, length, set, sym, refl, ap, ◌∙◌, subst, ap₂, le_of_suc-le-suc, not-suc-le-zero, mul-le-mul_right, mod-eq_of_lt, suc-mul, add-mul, mul-pos, one-mul, mul-zero, ne_of_gt, ne_of_lt, add-one, arith, get_or-set_other, pow_pos}
-use native.Mathlib.Nat.{min-eq_left, zero-mod, suc-pred-eq_of_ne-zero}
-use native.Mathlib.Decide.{dec_le}
-use lib.Arith.{digits_div, digits_mod}
-use lib.Pow.{pow-lt}
+use Rattle.std.proofs.Math.Nat.{min-eq_left, zero-mod, suc-pred-eq_of_ne-zero}
+use Rattle.std.proofs.Math.Decide.{dec_le}
+use Rattle.std.proofs.Math.Arith.{digits_div, digits_mod}
+use Rattle.std.proofs.Math.Pow.{pow-lt}
 use Rattle.meaning.specs.Tables.{tabulate, at}
 use Rattle.meaning.specs.Differences.{minus}
 use Rattle.meaning.specs.Stirling.{stirling1, stirling2}
@@ -14,7 +14,7 @@ use Rattle.theory.specs.Words.{cong_of_pow}
 use Rattle.theory.specs.Tables.{Filled, filled_start, filled_step, filled_done, length-tabulate, at-tabulate-zero}
 use Rattle.theory.specs.StirlingNumbers.{signed-step}
 use Rattle.math_utils.specs.declared.stirling.Kind.{Kind}
-use Rattle.math_utils.specs.Kinds.{entry, factor, Factors, table, Zeros}
+use Rattle.math_utils.specs.Kinds.{entry, factor, Factors, Zeros}
 
 -- an entry by its row and column
 number : Kind → ℕ → ℕ → ℕ → ℕ
@@ -221,9 +221,6 @@ module _ (k : Kind) (w side : ℕ) where
       (subst (λ (u : List ℕ). Filled (entry k w side) (tabulate n (λ c. 0)) (set u 0 1) 1) (sym (e ∙ ap (λ (a : ℕ). tabulate a (λ c. 0)) whole))
       (filled_step _ _ _ 0 1 (filled_start _ _) (rw (length-tabulate n (λ c. 0)) (mul-pos pos pos)) (corner_entry k w side word h pos))))
 
-  pub rows-length : (t : List ℕ) (i : ℕ) → Rows k w side t i → length t ≡ n
-  rows-length t i r = r.same ∙ length-tabulate n (λ c. 0)
-
   -- row i is filled
   pub rows_step : (t : List ℕ) (i : ℕ) → Filled (entry k w side) (tabulate n (λ c. 0)) t (i * side + side) → Rows k w side t (i + 1)
   rows_step t i r = subst (Filled _ _ t) (sym (suc-mul i side) ∙ ap (◌* side) (sym (add-one i))) r
@@ -232,11 +229,3 @@ module _ (k : Kind) (w side : ℕ) where
   rows_done t i m r e whole =
       let long = length-tabulate n (λ c. 0) in
       filled_done _ _ t (i * side) r (omega (arith, long, ap (◌* side) e)) ∙ ap (λ (a : ℕ). tabulate a (entry k w side)) (long ∙ sym whole)
-
--- the table of a kind is that of its entries
-pub table-entries : (k : Kind) (n w size : ℕ) → size ≡ (n + 1) * (n + 1) → tabulate size (entry k w (n + 1)) ≡ table k n w
-table-entries k n w size e = ap₂ (λ (a b : ℕ). tabulate a (entry k w b)) (e ∙ ap (λ (x : ℕ). x * x) (add-one n)) (add-one n) ∙ by_kind k
-  where
-    by_kind : (k : Kind) → tabulate (suc n * suc n) (entry k w (suc n)) ≡ table k n w
-    by_kind Kind.First = refl
-    by_kind Kind.Second = refl

@@ -1,8 +1,8 @@
 -- The loops of the falling products: the product so far, whether it is zero modulo 2^w, and what the answer says.
 use Rattle.std.proofs.Common.{◌≡◌, ℕ, ◌+◌, ◌-◌, ◌*◌, ◌%◌, ◌^◌, ◌<◌, ◌≤◌, min, Bool, true, false, cond, List, length, set, sym, refl, ap, ◌∙◌, subst, ap₂, ⊎_elim, true≢false, zero-le, le_trans, le_of_eq, le_refl, not-suc-le-zero, mod-eq_of_lt, pos_of_ne-zero, suc-ne-zero, arith, get_or-set_same}
-use native.Mathlib.Nat.{mod-le}
-use lib.Bits.{bit_and}
-use lib.Pow.{pow-lt}
+use Rattle.std.specs.Prelude.{bit_and}
+use Rattle.std.proofs.Math.Nat.{mod-le}
+use Rattle.std.proofs.Math.Pow.{pow-lt}
 use Rattle.meaning.specs.Tables.{at, tabulate}
 use Rattle.meaning.specs.Factorials.{falling, taken_from, taken}
 use Rattle.meaning.specs.Settings.{fits_width}

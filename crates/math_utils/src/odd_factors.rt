@@ -5,7 +5,7 @@ ghost use Rattle.meaning.specs.Factorials.{factorial, odd_part};
 ghost use Rattle.meaning.specs.Inverses.{inverse};
 ghost use Rattle.math_utils.specs.OddTables.{OddFactorials, Inverted, odd_factorials_of};
 
-// A table with an entry for each degree from 0 to 255.
+// A table with an entry for each degree from 0 to 255: data that stands whole, no room of which a part is lent.
 pub type DegreeTable = [u64; 256];
 
 const ODD_FACTORIALS: DegreeTable = [

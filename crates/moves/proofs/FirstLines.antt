@@ -1,8 +1,8 @@
 -- The lines of a first variable: a line whose passes are all made is the moved line, and a table whose parts of several lines come back moved is moved along
 -- its first variable.
 use Rattle.std.proofs.Common.{◌≡◌, ℕ, zero, suc, ◌+◌, ◌-◌, ◌*◌, ◌/◌, ◌%◌, ◌<◌, ◌≤◌, List, length, sym, ap, ◌∙◌, le_of_suc-le-suc, add-zero, mul-le-mul_right, mod-lt, zero-lt-suc, div-lt_iff_lt-mul, one-mul, div-add-mod', le-div_iff_mul-le, mul-one, div-one, arith}
-use mathlib.Core.Path.{fun_ext}
-use native.Mathlib.Nat.{mod-one}
+use Rattle.std.proofs.Math.Path.{fun_ext}
+use Rattle.std.proofs.Math.Nat.{mod-one}
 use Rattle.meaning.specs.Tables.{tabulate, at}
 use Rattle.theory.specs.Tables.{length-tabulate, at-tabulate, tabulate_cong}
 use Rattle.theory.specs.Parts.{part, put, length_part, at_part, filled_part}
@@ -15,6 +15,9 @@ use Rattle.moves.specs.NodeLines.{EachLine, Passes, Moves, line_at}
 use Rattle.moves.specs.MoveLaws.{moved_line_local}
 
 -- a single line is a block of stride 1
+pub unit : (d : ℕ) → d ≡ 1 * d
+unit d = omega arith
+
 lined-one : (line : Line) (d : ℕ) (f : ℕ → ℕ) (x : ℕ) → lined line 1 d f x ≡ line d f x
 unfolding lined
 lined-one line d f x = simp (mul-one, mod-one, div-one, add-zero)

@@ -1,4 +1,5 @@
--- The numbers that a pass sets, and blocks and tables when all passes are made (MovePasses); the lines of a first variable (FirstLines); lines of degree 3 (MovedFours).
+-- The numbers that a pass sets, and blocks when all passes are made (MovePasses); the lines of a first variable (FirstLines);
+-- lines of degree 3 (MovedFours).
 pub mod MovePasses
 pub mod FirstLines
 pub mod MovedFours

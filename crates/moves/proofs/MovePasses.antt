@@ -1,6 +1,5 @@
--- The passes of a move: the number that a turn sets, with the products reduced first, a pass over a block that shows passes already, the block when all passes
--- are made, and a table that is left.
-use Rattle.std.proofs.Common.{◌≡◌, ℕ, suc, ◌+◌, ◌*◌, ◌/◌, ◌%◌, ◌<◌, ◌≤◌, List, length, ◌∙◌, le_of_suc-le-suc}
+-- The passes of a move: the number that a turn sets, with the products reduced first, two passes within a block, and the block when all passes are made.
+use Rattle.std.proofs.Common.{◌≡◌, ℕ, suc, ◌+◌, ◌*◌, ◌/◌, ◌%◌, ◌^◌, ◌<◌, ◌≤◌, List, ◌∙◌, le_of_suc-le-suc}
 use Rattle.meaning.specs.Tables.{tabulate}
 use Rattle.theory.specs.Congruence.{cong_of_eq, cong_trans, cong_add, cong_add-left, mod-cong}
 use Rattle.theory.specs.Tables.{eq-tabulate}
@@ -8,7 +7,9 @@ use Rattle.theory.specs.AlongEach.{Line}
 use Rattle.theory.specs.Nodes.{node_line}
 use Rattle.lines.specs.FlatTables.{lined}
 use Rattle.lines.specs.InPlace.{Shows, index_lt}
+use Rattle.theory.specs.MovedLines.{shift}
 use Rattle.lines.specs.NodeOrders.{Opened, Opening, opens_done}
+use Rattle.moves.specs.NodePairs.{Pairing}
 
 pub sum_with_products : {p q v r : ℕ} (m k l a x y : ℕ) → p ≡ (k * x) % m → q ≡ (l * y) % m → r ≡ (p + q) % m → v ≡ (a + r) % m
     → v ≡ (a + (k * x + l * y)) % m
@@ -17,10 +18,10 @@ sum_with_products {p} {q} {v} {r} m k l a x y e f g h =
     ∙ (cong_add-left a (cong_trans (cong_of_eq m g)
     (cong_trans (mod-cong m (p + q)) (cong_add (cong_trans (cong_of_eq m e) (mod-cong m (k * x))) (cong_trans (cong_of_eq m f) (mod-cong m (l * y))))))).same
 
--- a pass over the table t that shows the passes down to k
-pub after_opening : {m : ℕ} {δ : ℕ → ℕ → ℕ} {s d : ℕ} {f : ℕ → ℕ} {n k l : ℕ} {t u : List ℕ} → Opened m δ s d f n k t
-    → ((g : ℕ → ℕ) → Opened m δ s d g (length t) k t → Opened m δ s d g (length t) l u) → Opened m δ s d f n l u
-after_opening {f} r h = (rw r.shows.same at (h f)) r
+-- two passes come from place i to place j of a block of n numbers, whatever numbers f it had before all passes
+abbrev pub Come : (a s d n done i j : ℕ) → List ℕ → List ℕ → Type 0
+Come a s d n done i j t u =
+    (f : ℕ → ℕ) → Pairing (2 ^ 64) (shift (2 ^ 64) a) s d f n done i t → Pairing (2 ^ 64) (shift (2 ^ 64) a) s d f n done j u
 
 -- a pass at a place that is written otherwise
 pub opening_at : {m : ℕ} {δ : ℕ → ℕ → ℕ} {s d : ℕ} {f : ℕ → ℕ} {n k i j : ℕ} {t : List ℕ} → i ≡ j → Opening m δ s d f n k j t → Opening m δ s d f n k i t

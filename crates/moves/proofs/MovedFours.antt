@@ -1,11 +1,10 @@
 -- A line of degree 3 moved by an offset, term by term: pass 2 alters the third coefficient, pass 1 the second and the third, pass 0 the three lower ones, each
 -- by the number above it as it was before the pass. Numbers are compared modulo m, so that it does not matter how a factor is written.
 use Rattle.std.proofs.Common.{◌≡◌, ℕ, zero, suc, ◌+◌, ◌-◌, ◌*◌, ◌%◌, ◌<◌, ◌≤◌, [], ◌∷◌, sym, ap, ◌∙◌, mod-eq_of_lt, arith}
-use native.Mathlib.Nat.{mod-mod}
+use Rattle.std.proofs.Math.Nat.{mod-mod}
 use Rattle.meaning.specs.Tables.{at}
 use Rattle.meaning.specs.Differences.{minus}
-use Rattle.theory.specs.Congruence.{Cong, cong_of_eq, cong_refl, cong_sym, cong_trans, cong_add, cong_add_right, cong_add_cancel_cong, cong_mul, mod-cong}
-use Rattle.theory.specs.Congruence.{minus-add, cong_minus_of_add}
+use Rattle.theory.specs.Congruence.{Cong, cong_of_eq, cong_refl, cong_sym, cong_trans, cong_add, cong_add_right, cong_add_cancel_cong, cong_mul, mod-cong, minus-add, cong_minus_of_add}
 use Rattle.theory.specs.MovedLines.{shift, moved_line, node_line-moved}
 use Rattle.lines.specs.NodeOrders.{from, from_step, from_keep, from_top, expanded-eq-rewritten}
 
@@ -23,7 +22,8 @@ module _ {m : ℕ} (positive : 0 < m) (a : ℕ) (c : ℕ → ℕ) where
       → Cong m p (factor * y) → v ≡ (x + p) % m → Cong m v (now k j)
   number k j x y factor p v h l before above e product total =
       cong_trans (cong_of_mod total)
-      (cong_trans (cong_add before (cong_trans product (cong_mul (cong_minus_of_add k positive e) above))) (cong_of_eq m (sym (from_step k 3 (shift m a) c j h l))))
+      (cong_trans (cong_add before (cong_trans product (cong_mul (cong_minus_of_add k positive e) above)))
+      (cong_of_eq m (sym (from_step k 3 (shift m a) c j h l))))
 
   -- a reduced number is that of the moved line
   moved_at : (j x v : ℕ) → j ≤ 3 → v ≡ x % m → Cong m v (now 0 j) → v ≡ moved_line m a 3 c j
@@ -62,7 +62,8 @@ module _ {m : ℕ} (positive : 0 < m) (a : ℕ) (c : ℕ → ℕ) where
             (number 0 1 inner twice more₁ p₃ middle (omega arith) (omega arith) inner-is twice-is
             (cong_trans (cong_add_right 0 (cong_of_mod f₂)) (cong_of_eq m {a = a + 1 + 0} {b = a + 1} (omega arith))) (cong_of_mod q₃) v₅),
         moved_at 2 (twice + more₂) high (omega arith) v₆
-            (number 0 2 twice x₃ (a + 2) more₂ high (omega arith) (omega arith) twice-is (top 1) (cong_of_eq m {a = a + 2 + 0} {b = a + 2} (omega arith)) plus v₆),
+            (number 0 2 twice x₃ (a + 2) more₂ high (omega arith) (omega arith) twice-is (top 1)
+            (cong_of_eq m {a = a + 2 + 0} {b = a + 2} (omega arith)) plus v₆),
       )
     where
       kept : (k j x : ℕ) → c j ≡ x → j < k → Cong m x (now k j)

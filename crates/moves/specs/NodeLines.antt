@@ -82,7 +82,8 @@ module _ {m d place near far : ℕ} where
     ahead j h = r.kept j (λ c l e. absurd (omega (arith, r.place_of, mul-le-mul_right (suc d) l)))
 
     -- one line more
-    pub numbers-step : (v : ℕ) → i < length t → v ≡ (at t i + (near * at t (i + 1) + far * at t (i + 2))) % m → Numbers m d place near far t₀ (slice_set t i v) (i + (d + 1))
+    pub numbers-step : (v : ℕ) → i < length t → v ≡ (at t i + (near * at t (i + 1) + far * at t (i + 2))) % m
+        → Numbers m d place near far t₀ (slice_set t i v) (i + (d + 1))
     numbers-step v h e =
         record {
           count = suc r.count;

@@ -3,12 +3,10 @@
 -- so that row d - 1 gets no far row. In row k the factors of a move are g and g (g - 1) with g = a - k. In row k + 1 they are 2 g and g (g + 1), and g is one
 -- more from row to row, so that both factors are counted up by sums.
 use Rattle.std.specs.Prelude.{◌≡◌, ℕ, suc, ◌+◌, ◌*◌, ◌/◌, ◌%◌, ◌<◌, ◌≤◌, ◌⊎◌, List, refl}
-use Rattle.std.proofs.Math.Path.{sym, ap}
-use Rattle.std.proofs.Common.{ap₂, ◌∙◌, inl, inr, le_refl, le_trans, eq-or-lt_of_le, mul-le-mul_right, mul_comm, arith}
+use Rattle.std.proofs.Common.{sym, ap, ap₂, ◌∙◌, inl, inr, le_refl, le_trans, eq-or-lt_of_le, mul-le-mul_right, mul_comm, arith}
 use Rattle.std.proofs.Math.Nat.{lt_of_mul-lt-mul_left}
 use Rattle.meaning.specs.Differences.{minus}
-use Rattle.theory.specs.Congruence.{Cong, cong_of_eq, cong_sym, cong_trans, cong_refl, cong_add, cong_add_right, cong_mul}
-use Rattle.theory.specs.Congruence.{cong_add_cancel, cong_minus_of_add, mod-cong, minus-add}
+use Rattle.theory.specs.Congruence.{Cong, cong_of_eq, cong_sym, cong_trans, cong_refl, cong_add, cong_add_right, cong_mul, cong_add_cancel, cong_minus_of_add, mod-cong, minus-add}
 use Rattle.theory.specs.MovedLines.{shift}
 use Rattle.lines.specs.FlatTables.{lined}
 use Rattle.lines.specs.InPlace.{Parted, parted_of_high, shows_low, index_le, index_lt}

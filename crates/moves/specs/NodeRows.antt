@@ -8,8 +8,7 @@ use Rattle.std.proofs.Math.Nat.{lt_of_mul-lt-mul_left}
 use Rattle.std.proofs.Math.Decide.{dec_le}
 use Rattle.meaning.specs.Tables.{at}
 use Rattle.meaning.specs.Differences.{minus}
-use Rattle.theory.specs.Congruence.{Cong, cong_of_eq, cong_refl, cong_sym, cong_trans, cong_add, cong_add_right, cong_mul}
-use Rattle.theory.specs.Congruence.{cong_minus_of_add, mod-cong, minus-add}
+use Rattle.theory.specs.Congruence.{Cong, cong_of_eq, cong_refl, cong_sym, cong_trans, cong_add, cong_add_right, cong_mul, cong_minus_of_add, mod-cong, minus-add}
 use Rattle.theory.specs.MovedLines.{shift}
 use Rattle.lines.specs.FlatTables.{lined}
 use Rattle.lines.specs.InPlace.{Parted, lined-at}

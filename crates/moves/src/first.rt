@@ -1,11 +1,19 @@
 // The lines of a first variable moved by an offset, in place and modulo 2^64: they are neighbours in the table, one line behind the other. Several lines go at
 // once, number by number: a number has the same factors in all of them, so that the factors are made once and the loop is long.
-ghost use Rattle.std.specs.Prelude.{◌≡◌, ℕ, suc, ◌+◌, ◌%◌, ◌^◌, ◌<◌, ◌≤◌, length};
+ghost use Rattle.std.specs.Prelude.{◌≡◌, suc, ◌+◌, ◌%◌, ◌^◌, ◌<◌, length};
 ghost use Rattle.meaning.specs.Tables.{tabulate, at};
-ghost use Rattle.theory.specs.MovedLines.{shift, moved_line};
+ghost use Rattle.theory.specs.MovedLines.{moved_line};
 ghost use Rattle.lines.specs.FlatTables.{lined, blocked};
-ghost use Rattle.lines.specs.NodeOrders.{Opened};
-ghost use Rattle.moves.specs.NodeLines.{EachLine, GetsAdded, Passes, Moves};
+ghost use Rattle.moves.specs.NodeLines.{EachLine, GetsAdded, Passes, Moves, each_same, each_then};
+
+use crate::pairs::{Pairs, make_passes};
+
+// The lines, of degree + 1 numbers each, and the offset that they are moved by.
+#[derive(Clone, Copy, Debug, PartialEq, Eq)]
+pub(crate) struct Lines {
+    pub(crate) degree: usize,
+    pub(crate) offset: u64,
+}
 
 // In every line number `place` gets `factor` times the next number added. No call of the next function does that: the last line has no number two above.
 fn add_next(part: &mut [u64], degree: usize, place: usize, factor: u64)
@@ -36,12 +44,14 @@ fn add_numbers(part: &mut [u64], degree: usize, place: usize, near: u64, far: u6
     }
 }
 
-// The passes `done` + 1 and `done` over every line at once. The last number has no number two above it.
-fn move_number_pair(part: &mut [u64], degree: usize, done: usize, offset: u64)
-    requires { (suc done < degree) × (degree < length part.old) }
-    ensures { EachLine degree (Passes (2 ^ 64) offset degree (suc (suc done)) done) part.old part.new }
+// The passes `done` + 1 and `done` over every line at once. The last number has no number two above it. One loop over a trait, for this one, a single line and
+// the rows of a block, takes one to five in a hundred more instructions on blocks, by index or by place; for the two here it would take two more instances.
+fn move_number_pair(part: &mut [u64], lines: Lines, done: usize)
+    requires { (suc done < lines.degree) × (lines.degree < length part.old) }
+    ensures { EachLine lines.degree (Passes (2 ^ 64) lines.offset lines.degree (suc (suc done)) done) part.old part.new }
 {
-    let first = arith::wrapping_sub(offset, done as u64);
+    let degree = lines.degree;
+    let first = arith::wrapping_sub(lines.offset, done as u64);
     add_numbers(
         part,
         degree,
@@ -70,12 +80,12 @@ fn add_number(part: &mut [u64], i: usize, near: u64, far: u64)
 }
 
 // The passes `done` + 1 and `done` over a single line at once: there a loop for each number would not pay.
-fn move_line_pair(part: &mut [u64], degree: usize, done: usize, offset: u64)
-    requires { (suc done < degree) × (length part.old ≡ suc degree) }
-    ensures { Passes (2 ^ 64) offset degree (suc (suc done)) done part.old part.new }
+fn move_line_pair(part: &mut [u64], lines: Lines, done: usize)
+    requires { (suc done < lines.degree) × (length part.old ≡ suc lines.degree) }
+    ensures { Passes (2 ^ 64) lines.offset lines.degree (suc (suc done)) done part.old part.new }
 {
     let last = part.len() - 2;
-    let first = arith::wrapping_sub(offset, done as u64);
+    let first = arith::wrapping_sub(lines.offset, done as u64);
     add_number(
         part,
         done,
@@ -92,69 +102,73 @@ fn move_line_pair(part: &mut [u64], degree: usize, done: usize, offset: u64)
     part[last] = part[last].wrapping_add(arith::wrapping_mul(near, part[last + 1]));
 }
 
-// The same over every line, by what is fastest.
-fn move_pair(part: &mut [u64], degree: usize, done: usize, offset: u64)
-    requires { (suc done < degree) × (degree < length part.old) }
-    ensures { EachLine degree (Passes (2 ^ 64) offset degree (suc (suc done)) done) part.old part.new }
-{
-    if part.len() == degree + 1 {
-        move_line_pair(part, degree, done, offset);
-    } else {
-        move_number_pair(part, degree, done, offset);
+impl Pairs for Lines {
+    ghost degree = { λ x. x.degree };
+
+    ghost fits = { λ x n. x.degree < n };
+
+    ghost made = { λ x top done. EachLine x.degree (Passes (2 ^ 64) x.offset x.degree top done) };
+
+    fn degree(self) -> usize {
+        self.degree
     }
+
+    // It has one number.
+    fn alone(self, part: &mut [u64], done: usize) {
+        add_next(
+            part,
+            self.degree,
+            done,
+            arith::wrapping_sub(self.offset, done as u64),
+        );
+    }
+
+    // Over every line, by what is fastest.
+    fn two(self, part: &mut [u64], done: usize) {
+        if part.len() == self.degree + 1 {
+            move_line_pair(part, self, done);
+        } else {
+            move_number_pair(part, self, done);
+        }
+    }
+
+    ghost none = { λ x k t. each_same (λ u f r. r) };
+
+    ghost follow = { λ x k l n t u v first second. each_then first second (λ a b c come passes f r. passes f (come f r)) };
 }
 
-// The passes below `top`, which is even, over every line, two at once. An index by hand: it goes down by two.
-fn move_line_pairs(part: &mut [u64], degree: usize, top: usize, offset: u64)
-    requires { (top ≤ degree) × (top % 2 ≡ 0) × (degree < length part.old) }
-    ensures { EachLine degree (Passes (2 ^ 64) offset degree top 0) part.old part.new }
+// All passes over every line.
+fn move_lines(part: &mut [u64], lines: Lines)
+    requires { lines.degree < length part.old }
+    ensures { EachLine lines.degree (Moves (2 ^ 64) lines.offset lines.degree) part.old part.new }
 {
-    let mut done = top;
-    while 0 < done {
-        done -= 2;
-        move_pair(part, degree, done, offset);
-    }
-}
-
-// All passes over every line; where their number is odd, the shortest, which comes first and has one number, is made alone.
-fn move_lines(part: &mut [u64], degree: usize, offset: u64)
-    requires { degree < length part.old }
-    ensures { EachLine degree (Moves (2 ^ 64) offset degree) part.old part.new }
-{
-    if degree % 2 == 1 {
-        let top = degree - 1;
-        add_next(part, degree, top, arith::wrapping_sub(offset, top as u64));
-        move_line_pairs(part, degree, top, offset);
-        return;
-    }
-    move_line_pairs(part, degree, degree, offset);
+    make_passes(lines, part);
 }
 
 // All lines of a table, sixteen at a time, which the nearest cache holds at every degree.
-fn move_parts(table: &mut [u64], degree: usize, offset: u64)
-    requires { (degree < 256) × (degree < length table.old) × (length table.old % suc degree ≡ 0) }
-    ensures { table.new ≡ tabulate (length table.old) (blocked (moved_line (2 ^ 64) offset) 1 degree (at table.old)) }
+fn move_parts(table: &mut [u64], lines: Lines)
+    requires { (lines.degree < 256) × (lines.degree < length table.old) × (length table.old % suc lines.degree ≡ 0) }
+    ensures { table.new ≡ tabulate (length table.old) (blocked (moved_line (2 ^ 64) lines.offset) 1 lines.degree (at table.old)) }
 {
-    let most = (degree + 1) * 16;
+    let most = (lines.degree + 1) * 16;
     let mut from = 0;
-    // An index by hand: the last part may be shorter.
+    // An index by hand, and a call of its own for the last part, which may be shorter: with one call for all, a table of one part takes up to 7 percent more
+    // instructions.
     while most < table.len() - from {
         let end = from + most;
-        move_lines(&mut table[from..end], degree, offset);
+        move_lines(&mut table[from..end], lines);
         from = end;
     }
     let end = table.len();
-    move_lines(&mut table[from..end], degree, offset);
+    move_lines(&mut table[from..end], lines);
 }
 
 // Pass `done` over a single line: the factor goes up from number to number.
-fn move_line(part: &mut [u64], degree: usize, done: usize, offset: u64)
-    requires { (done < degree) × (length part.old ≡ suc degree) }
-    ensures { (f : ℕ → ℕ)
-        → Opened (2 ^ 64) (shift (2 ^ 64) offset) 1 degree f (length part.old) (suc done) part.old
-        → Opened (2 ^ 64) (shift (2 ^ 64) offset) 1 degree f (length part.old) done part.new }
+fn move_line(part: &mut [u64], lines: Lines, done: usize)
+    requires { (done < lines.degree) × (length part.old ≡ suc lines.degree) }
+    ensures { Passes (2 ^ 64) lines.offset lines.degree (suc done) done part.old part.new }
 {
-    let mut factor = arith::wrapping_sub(offset, done as u64);
+    let mut factor = arith::wrapping_sub(lines.offset, done as u64);
     for i in done..part.len() - 1 {
         part[i] = part[i].wrapping_add(arith::wrapping_mul(factor, part[i + 1]));
         factor = factor.wrapping_add(1);
@@ -162,23 +176,23 @@ fn move_line(part: &mut [u64], degree: usize, done: usize, offset: u64)
 }
 
 // A single long line, one pass after the other.
-fn move_long(part: &mut [u64], degree: usize, offset: u64)
-    requires { length part.old ≡ suc degree }
-    ensures { part.new ≡ tabulate (length part.old) (lined (moved_line (2 ^ 64) offset) 1 degree (at part.old)) }
+fn move_long(part: &mut [u64], lines: Lines)
+    requires { length part.old ≡ suc lines.degree }
+    ensures { part.new ≡ tabulate (length part.old) (lined (moved_line (2 ^ 64) lines.offset) 1 lines.degree (at part.old)) }
 {
-    for done in (0..degree).rev() {
-        move_line(part, degree, done, offset);
+    for done in (0..lines.degree).rev() {
+        move_line(part, lines, done);
     }
 }
 
 // The lines of a first variable, by what is fastest.
-pub(crate) fn move_first(table: &mut [u64], degree: usize, offset: u64)
-    requires { (degree < 256) × (degree < length table.old) × (length table.old % suc degree ≡ 0) }
-    ensures { table.new ≡ tabulate (length table.old) (blocked (moved_line (2 ^ 64) offset) 1 degree (at table.old)) }
+pub(crate) fn move_first(table: &mut [u64], lines: Lines)
+    requires { (lines.degree < 256) × (lines.degree < length table.old) × (length table.old % suc lines.degree ≡ 0) }
+    ensures { table.new ≡ tabulate (length table.old) (blocked (moved_line (2 ^ 64) lines.offset) 1 lines.degree (at table.old)) }
 {
-    if 19 < degree && table.len() == degree + 1 {
-        move_long(table, degree, offset);
+    if 19 < lines.degree && table.len() == lines.degree + 1 {
+        move_long(table, lines);
         return;
     }
-    move_parts(table, degree, offset);
+    move_parts(table, lines);
 }

@@ -5,7 +5,7 @@ ghost use Rattle.moves.specs.MoveLaws.{moved_line_local, moved_of_mul};
 use lines::FourTransform;
 
 // A move by an offset.
-#[derive(Clone, Copy)]
+#[derive(Clone, Copy, Debug, PartialEq, Eq)]
 pub(crate) struct Move {
     pub(crate) offset: u64,
 }

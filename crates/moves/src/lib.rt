@@ -8,10 +8,12 @@ ghost use Rattle.theory.specs.Moved.{shifted};
 
 mod first;
 mod fours;
+mod pairs;
 mod passes;
 
+use crate::first::Lines;
 use crate::fours::Move;
-use lines::{LineTransform, OfNumber};
+use lines::{Block, LineTransform, OfNumber};
 
 impl LineTransform for Move {
     // without an offset
@@ -20,12 +22,16 @@ impl LineTransform for Move {
     }
 
     fn neighbours(self, table: &mut [u64], degree: u8) -> bool {
-        first::move_first(table, degree as usize, self.offset);
+        let lines = Lines {
+            degree: degree as usize,
+            offset: self.offset,
+        };
+        first::move_first(table, lines);
         true
     }
 
-    fn block(self, part: &mut [u64], stride: usize, degree: u8) {
-        passes::move_block(part, stride, degree as usize, self.offset);
+    fn block(self, part: &mut [u64], block: Block) {
+        passes::move_block(part, block, self.offset);
     }
 }
 

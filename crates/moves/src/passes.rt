@@ -1,13 +1,14 @@
 // Lines moved by an offset, in place and modulo 2^64: coefficients of falling factorials of x become those of the same polynomial at x plus the offset. The
 // nodes 0, 1, 2, .. of the falling factorials become offset, offset + 1, ..: in a block of s interleaved lines, which are the rows 0 to d of s numbers, pass k,
 // from k = d - 1 down to 0, goes over the rows from k up to d - 1 and adds to each the row above it times offset + row - 2 k, the new node less the old one.
-// Two passes are made at once: they read and write each row once, and add multiples of the row above and of the row two above.
-ghost use Rattle.std.specs.Prelude.{◌≡◌, ℕ, suc, ◌+◌, ◌*◌, ◌%◌, ◌^◌, ◌<◌, ◌≤◌, length};
-ghost use Rattle.meaning.specs.Tables.{tabulate, at};
+// Two passes at once add multiples of the row above and of the row two above.
+ghost use Rattle.std.specs.Prelude.{◌≡◌, ◌+◌, ◌^◌, ◌≤◌, length};
 ghost use Rattle.theory.specs.MovedLines.{shift, moved_line};
-ghost use Rattle.lines.specs.FlatTables.{lined, blocked};
-ghost use Rattle.lines.specs.NodeOrders.{Opened};
+ghost use Rattle.lines.specs.Blocks.{size, block_of, Opens, opens_follow};
 ghost use Rattle.moves.specs.NodeRows.{Added};
+
+use crate::pairs::{Pairs, make_passes};
+use lines::Block;
 
 // Each of the `stride` numbers from place `from` on gets `factor` times the number one stride above it added. No call of the next function does that: the last
 // row has no row two above it.
@@ -37,78 +38,75 @@ fn add_rows(part: &mut [u64], stride: usize, from: usize, near: u64, far: u64)
     }
 }
 
-// The passes `done` + 1 and `done` over a block at once, row by row. The last row has no row two above it.
-fn move_row_pair(part: &mut [u64], stride: usize, degree: usize, done: usize, offset: u64)
-    requires { (0 < stride) × (suc done < degree) × (length part.old ≡ stride * suc degree) }
-    ensures { (f : ℕ → ℕ)
-        → Opened (2 ^ 64) (shift (2 ^ 64) offset) stride degree f (length part.old) (suc (suc done)) part.old
-        → Opened (2 ^ 64) (shift (2 ^ 64) offset) stride degree f (length part.old) done part.new }
-{
-    let end = part.len() - stride - stride;
-    let first = arith::wrapping_sub(offset, done as u64);
-    let mut from = stride * done;
-    add_rows(
-        part,
-        stride,
-        from,
-        first,
-        arith::wrapping_mul(first, arith::wrapping_sub(first, 1)),
-    );
-    from += stride;
-    let mut near = first.wrapping_add(first);
-    let mut far = arith::wrapping_mul(first, first.wrapping_add(1));
-    // An index by hand: it is the place of a row, and that of the last one is needed.
-    while from < end {
-        add_rows(part, stride, from, near, far);
-        from += stride;
-        near = near.wrapping_add(2);
-        far = far.wrapping_add(near);
-    }
-    add_row(part, stride, from, near);
+// A block, row by row, and the offset that it is moved by.
+#[derive(Clone, Copy, Debug, PartialEq, Eq)]
+struct Rows {
+    block: Block,
+    offset: u64,
 }
 
-// The passes below `top`, which is even, over a block, two at once. An index by hand: it goes down by two.
-fn move_pairs(part: &mut [u64], stride: usize, degree: usize, top: usize, offset: u64)
-    requires { (0 < stride) × (top ≤ degree) × (top % 2 ≡ 0) × (length part.old ≡ stride * suc degree) }
-    ensures { (f : ℕ → ℕ)
-        → Opened (2 ^ 64) (shift (2 ^ 64) offset) stride degree f (length part.old) top part.old
-        → Opened (2 ^ 64) (shift (2 ^ 64) offset) stride degree f (length part.old) 0 part.new }
-{
-    let mut done = top;
-    while 0 < done {
-        done -= 2;
-        move_row_pair(part, stride, degree, done, offset);
-    }
-}
+impl Pairs for Rows {
+    ghost degree = { λ x. x.block.degree };
 
-// All passes over a block; where their number is odd, the shortest, which comes first and has one row, is made alone.
-fn move_passes(part: &mut [u64], stride: usize, degree: usize, offset: u64)
-    requires { (0 < stride) × (length part.old ≡ stride * suc degree) }
-    ensures { part.new ≡ tabulate (length part.old) (lined (moved_line (2 ^ 64) offset) stride degree (at part.old)) }
-{
-    if degree % 2 == 1 {
-        let top = degree - 1;
+    ghost fits = { λ x n. n ≡ size x.block };
+
+    ghost made = { λ x. Opens (shift (2 ^ 64) x.offset) x.block };
+
+    fn degree(self) -> usize {
+        self.block.degree
+    }
+
+    // It has one row.
+    fn alone(self, part: &mut [u64], done: usize) {
+        let stride = self.block.stride;
         add_row(
             part,
             stride,
-            stride * top,
-            arith::wrapping_sub(offset, top as u64),
+            stride * done,
+            arith::wrapping_sub(self.offset, done as u64),
         );
-        move_pairs(part, stride, degree, top, offset);
-        return;
     }
-    move_pairs(part, stride, degree, degree, offset);
+
+    // The last row has no row two above it.
+    fn two(self, part: &mut [u64], done: usize) {
+        let stride = self.block.stride;
+        let end = part.len() - stride - stride;
+        let first = arith::wrapping_sub(self.offset, done as u64);
+        let mut from = stride * done;
+        add_rows(
+            part,
+            stride,
+            from,
+            first,
+            arith::wrapping_mul(first, arith::wrapping_sub(first, 1)),
+        );
+        from += stride;
+        let mut near = first.wrapping_add(first);
+        let mut far = arith::wrapping_mul(first, first.wrapping_add(1));
+        // An index by hand: it is the place of a row, and that of the last one is needed.
+        while from < end {
+            add_rows(part, stride, from, near, far);
+            from += stride;
+            near = near.wrapping_add(2);
+            far = far.wrapping_add(near);
+        }
+        add_row(part, stride, from, near);
+    }
+
+    ghost none = { λ x k t f r. r };
+
+    ghost follow = { λ x k l n t u v. opens_follow x.block };
 }
 
-// The same, by itself: moved into the loop over the blocks it takes up to a tenth longer.
+// All passes over a block. It stands by itself: moved into the loop over the blocks it takes up to a tenth longer.
 #[inline(never)]
-pub(crate) fn move_block(part: &mut [u64], stride: usize, degree: usize, offset: u64)
-    requires { (0 < stride) × (length part.old ≡ stride * suc degree) }
-    ensures { part.new ≡ tabulate (length part.old) (lined (moved_line (2 ^ 64) offset) stride degree (at part.old)) }
+pub(crate) fn move_block(part: &mut [u64], block: Block, offset: u64)
+    requires { length part.old ≡ size block }
+    ensures { part.new ≡ block_of (moved_line (2 ^ 64) offset) block part.old }
 {
     // Never so: said for the compiler, which then knows that a stride is not negative.
-    if 0x1000_0000_0000_0000 <= stride {
+    if 0x1000_0000_0000_0000 <= block.stride {
         return;
     }
-    move_passes(part, stride, degree, offset);
+    make_passes(Rows { block, offset }, part);
 }

@@ -1,8 +1,8 @@
 -- From a difference to its coefficient, variable by variable, the last variable first. Of the exponents hs of the last variables the weight is
 -- known, cut at the width, and the inverse of the odd factor modulo 2^64; one exponent more adds to the first and multiplies the second.
 use Rattle.std.proofs.Common.{◌≡◌, ℕ, suc, ◌+◌, ◌-◌, ◌*◌, ◌/◌, ◌%◌, ◌^◌, ◌<◌, ◌≤◌, min, eqb, List, [], ◌∷◌, ◌++◌, sym, ap, ◌∙◌, append_assoc, mod-lt, mul_assoc, mul_comm, one-mul, lt_of_not-le, arith, pow_pos}
-use native.Mathlib.Nat.{mod-one, mul-mul-mul_comm}
-use native.Mathlib.Decide.{dec_le}
+use Rattle.std.proofs.Math.Nat.{mod-one, mul-mul-mul_comm}
+use Rattle.std.proofs.Math.Decide.{dec_le}
 use Rattle.meaning.specs.Factorials.{factorial, odd_part}
 use Rattle.meaning.specs.Boxes.{cells, digits}
 use Rattle.meaning.specs.Values.{weight, odd_factor}

@@ -1,14 +1,14 @@
 -- One difference by masks and shifts. A weight of the width or more is one case, a lower one the other.
 use Rattle.std.proofs.Common.{◌≡◌, ℕ, zero, suc, ◌+◌, ◌-◌, ◌*◌, ◌/◌, ◌%◌, ◌^◌, ◌<◌, ◌≤◌, min, Bool, true, false, eqb, ◌⊎◌, sym, refl, ap, ◌∙◌, ap₂, inl, inr, le_of_lt, mod-lt, mod-eq_of_lt, eq-or-lt_of_le, mul-one, arith, pow_pos, pow_mono, eq-eqb, ne_eqb}
-use native.Mathlib.Nat.{min-eq_left, min-eq_right, mod-mod, mod-one}
-use lib.Count.{count_trailing_zeros}
-use lib.Bits.{bit_and, and_mask}
-use lib.Pow.{pow-lt, split}
+use Rattle.std.proofs.Math.Nat.{min-eq_left, min-eq_right, mod-mod, mod-one}
+use Rattle.std.specs.Int.Count.{count_trailing_zeros}
+use Rattle.std.specs.Int.Bits.{and_mask}
+use Rattle.std.proofs.Math.Pow.{pow-lt, split}
 use Rattle.meaning.specs.Factorials.{twos}
 use Rattle.theory.specs.Words.{low_bits}
 use Rattle.theory.specs.Twos.{twos_eq, trailing_eq-twos}
 use Rattle.box_rows.specs.Rows.{mask-less}
-use Rattle.std.specs.Prelude.{Some, None}
+use Rattle.std.specs.Prelude.{bit_and, Some, None}
 use Rattle.multivar_poly_recovery.specs.Extracted.{Mask, cell_of}
 
 coefficient-eq : (b : Bool) (n v : ℕ) → b ≡ true → n ≡ v → Some n ≡ cell_of b v

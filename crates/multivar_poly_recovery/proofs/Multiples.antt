@@ -1,8 +1,8 @@
 -- Differences of multiples: those of k times a function, modulo n k, are k times those modulo n, exactly.
 use Rattle.std.proofs.Common.{◌≡◌, ℕ, zero, suc, ◌+◌, ◌-◌, ◌*◌, ◌%◌, ◌<◌, List, [], ◌∷◌, sym, refl, ap, ◌∙◌, ap₂, add-zero, mul_comm, add-mul, zero-mul, mul-div_cancel}
-use mathlib.Core.Path.{fun_ext}
-use native.Mathlib.Nat.{mul-sub, mul-mod_left}
-use lib.Arith.{mod-mul}
+use Rattle.std.proofs.Math.Path.{fun_ext}
+use Rattle.std.proofs.Math.Nat.{mul-sub, mul-mod_left}
+use Rattle.std.proofs.Math.Arith.{mod-mul}
 use Rattle.meaning.specs.Boxes.{along}
 use Rattle.meaning.specs.Differences.{minus, diff, diffs, newton}
 

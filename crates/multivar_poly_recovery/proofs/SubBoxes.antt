@@ -1,8 +1,8 @@
 -- The loop over the sub-boxes of the last variable: the list of degrees is that of the other variables and then d. As for a line, all exponents hs of
 -- the variables behind are spoken of at once; sub-box e is asked at e ∷ hs.
 use Rattle.std.proofs.Common.{◌≡◌, ℕ, suc, ◌+◌, ◌-◌, ◌*◌, ◌/◌, ◌%◌, ◌^◌, ◌<◌, ◌≤◌, Bool, true, false, List, [], ◌∷◌, ◌++◌, length, take, sym, refl, ap, ◌∙◌, subst, ap₂, zero-le, mul-le-mul_right, zero-lt-suc, add-one, arith, length-take-le, take-suc}
-use native.Mathlib.Nat.{mul-div_cancel_left}
-use lib.Seq.{take-length}
+use Rattle.std.proofs.Math.Nat.{mul-div_cancel_left}
+use Rattle.std.proofs.Math.Seq.{take-length}
 use Rattle.meaning.specs.Tables.{at}
 use Rattle.meaning.specs.Factorials.{factorial, twos}
 use Rattle.meaning.specs.Inverses.{inverse}

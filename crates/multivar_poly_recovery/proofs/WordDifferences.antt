@@ -1,10 +1,10 @@
 -- Recovery's steps on a table. The values are moved up by 64 - w bits: their differences modulo 2^64, moved down again, are recovery's differences, which
 -- are those modulo 2^w.
 use Rattle.std.proofs.Common.{◌≡◌, ℕ, ◌+◌, ◌-◌, ◌*◌, ◌/◌, ◌%◌, ◌^◌, ◌<◌, ◌≤◌, Bool, cond, eqb, List, length, sym, ap, ◌∙◌, ap₂, mod-eq_of_lt, zero-mul, mul-div_cancel, arith, pow_pos, pow-add, eq-eqb}
-use mathlib.Core.Path.{fun_ext}
-use native.Mathlib.Nat.{zero-mod}
-use native.Mathlib.Decide.{dec_le}
-use lib.ListN.{get_or-eq_default}
+use Rattle.std.proofs.Math.Path.{fun_ext}
+use Rattle.std.proofs.Math.Nat.{zero-mod}
+use Rattle.std.proofs.Math.Decide.{dec_le}
+use Rattle.std.proofs.Math.ListN.{get_or-eq_default}
 use Rattle.meaning.specs.Tables.{tabulate, at}
 use Rattle.meaning.specs.Boxes.{cells, cell, digits, along}
 use Rattle.meaning.specs.Differences.{newton, differences, grid}
@@ -79,5 +79,6 @@ module _ (w : ℕ) (ds v : List ℕ) (h : w ≤ 64) (whole : length v ≡ cells 
       verdict : r ≡ every (cells ds) (λ n. divides w (digits ds n) (difference w ds v n))
       verdict = tested ∙ every_cong (cells ds) (λ n k. ap (divides w (digits ds n)) (entry n k))
 
-      left : tabulate (cells ds) (λ n. coefficient w (digits ds n) (at c n % 2 ^ w)) ≡ tabulate (cells ds) (λ n. coefficient w (digits ds n) (difference w ds v n))
+      left : tabulate (cells ds) (λ n. coefficient w (digits ds n) (at c n % 2 ^ w))
+          ≡ tabulate (cells ds) (λ n. coefficient w (digits ds n) (difference w ds v n))
       left = tabulate_cong (cells ds) _ _ (λ n k. ap (coefficient w (digits ds n)) (entry n k))

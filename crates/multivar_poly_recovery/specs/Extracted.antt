@@ -35,9 +35,13 @@ pub record Mask (w mask : ℕ) : Type 0 where
   pub few : bits ≤ w
   pub ones : mask ≡ 2 ^ bits - 1
 
--- the inverse of the odd part of a cell's factorials
+-- the inverse of the odd part of the factorials of a cell with the given exponents
+abbrev pub unit : List ℕ → ℕ
+unit es = inverse (odd_factor es) 64
+
+-- that of cell n
 abbrev pub unit_at : List ℕ → ℕ → ℕ
-unit_at ds n = inverse (odd_factor (digits ds n)) 64
+unit_at ds n = unit (digits ds n)
 
 -- a table of the inverses of the cells of the box of ds
 abbrev pub Inverted : List ℕ → List ℕ → Type 0

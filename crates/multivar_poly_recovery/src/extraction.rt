@@ -2,7 +2,7 @@
 // the last variable are a part of the table, for which the bits that are left and the inverse so far are handed on. In a large box the first variables,
 // as many as have 256 cells or fewer together, make rows: for each cell of a row the mask and the inverse are laid out once. In a small one the walk ends
 // at lines, along which the mask loses its bits. Each walk ends at the first difference that is not divisible as it has to be, with `None`. The table
-// and the degrees stay two parameters: each function cuts both anew. Structs are copied, and neither compared nor printed.
+// and the degrees stay two parameters: each function cuts both anew.
 ghost use Rattle.std.specs.Prelude.{◌≡◌, ℕ, suc, ◌-◌, ◌*◌, ◌/◌, ◌%◌, ◌^◌, ◌<◌, ◌≤◌, min, cond, List, [], ◌∷◌, length, take, ◌==◌};
 ghost use Rattle.std.specs.Option.{is_some};
 ghost use Rattle.meaning.specs.Factorials.{twos};
@@ -19,7 +19,7 @@ use answers::Refusal;
 use box_rows::layout;
 
 // The low bits of a coefficient that count: how many, and the mask of them.
-#[derive(Clone, Copy)]
+#[derive(Clone, Copy, Debug, PartialEq, Eq)]
 struct Low {
     bits: u32,
     ones: u64,
@@ -62,7 +62,7 @@ impl Low {
 
 // What the exponents of the variables behind a part of the box leave to it: so many bits of the width, and the inverse modulo 2^64 of the odd part of their
 // factorials.
-#[derive(Clone, Copy)]
+#[derive(Clone, Copy, Debug, PartialEq, Eq)]
 struct Left {
     width: u32,
     bits: u32,
@@ -72,7 +72,7 @@ struct Left {
 }
 
 // The tables of a box: the inverses by exponent, and of its first variables, which make its rows, the degrees, and for each cell of a row the mask and the
-// inverse.
+// inverse. They are copied and no more, since to compare or print them would go over all their numbers.
 #[derive(Clone, Copy)]
 struct Tables<'a> {
     inverses: &'a [u64],
@@ -230,19 +230,20 @@ impl Left {
 }
 
 // A box by rows, in a function by itself, so that small boxes do not pay for its tables. It and the next two take the width and make `Left` of it: where `Left`
-// was handed to them the compiler did not see that the inverse is 1, and a line of 16 took 5 percent longer.
+// was handed to them the compiler did not see that the inverse is 1, and a line of 16 took 5 percent longer. A struct of degrees and width would spare each of
+// them and `extract` one clause of two, since the table's length stays one: that would be no plainer.
 #[inline(never)]
 fn by_rows(table: &mut [u64], degrees: &[u8], bitwidth: u32) -> Option<()>
     requires { (length table.old ≡ cells degrees.now) × (bitwidth ≤ 64) }
     ensures { Extracted bitwidth degrees.now [] table.old table.new (is_some result) }
 {
     let inverses = math_utils::odd_factors::odd_factorial_inverses();
-    // Fixed memory, with room for the largest row.
+    // There is no heap: room for the largest row, whose cells are lent.
     let mut masks = [0u64; 256];
     let mut units = [0u64; 256];
     let first = layout::lay_out(&mut masks, degrees).unwrap();
+    layout::lay_out_numbers(&OddInverses { table: &inverses }, &mut units, degrees);
     let row = &degrees[..first];
-    units::lay_out(&mut units, row, &OddInverses { table: &inverses });
     let tables = Tables {
         inverses: &inverses,
         row,

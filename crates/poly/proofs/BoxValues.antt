@@ -1,6 +1,6 @@
 -- The value of a box from falling products in a table: of a line, and by a walk over the sub-boxes, which has the total of the sub-boxes before it.
-use Rattle.std.proofs.Common.{◌≡◌, ℕ, suc, ◌+◌, ◌-◌, ◌*◌, ◌%◌, ◌^◌, ◌<◌, ◌≤◌, List, [], ◌∷◌, length, sym, refl, ap, ◌∙◌, le_trans, add-zero, mul-le-mul_right, mod-eq_of_lt, suc-mul, one-mul, zero-mul, mul-one, suc-ne-zero, add-one, arith, get_or-take}
-use native.Mathlib.Nat.{zero-mod, suc_inj}
+use Rattle.std.proofs.Common.{◌≡◌, ℕ, suc, ◌+◌, ◌-◌, ◌*◌, ◌%◌, ◌^◌, ◌<◌, ◌≤◌, List, [], ◌∷◌, length, sym, refl, ap, ◌∙◌, le_trans, add-zero, mul-le-mul_right, mod-eq_of_lt, one-mul, zero-mul, mul-one, suc-ne-zero, add-one, arith, get_or-take}
+use Rattle.std.proofs.Math.Nat.{zero-mod, suc_inj}
 use Rattle.meaning.specs.Tables.{at}
 use Rattle.meaning.specs.Sums.{sum}
 use Rattle.meaning.specs.Factorials.{falling}
@@ -37,11 +37,6 @@ module _ {c table : List ℕ} where
         few = omega arith;
         sums = t ∙ (cong_add old new).same ∙ ap (◌% 2 ^ 64) (sym (ap (λ (n : ℕ). sum n F) (add-one i) ∙ sum_last i F));
       }
-
-  pub added_done : {total i : ℕ} → Added c table total i → length c ≤ i → total ≡ sum (length c) (λ n. at table n * at c n) % 2 ^ 64
-  added_done {total} {i} r h =
-      let e : i ≡ length c = omega (arith, r.few) in
-      r.sums ∙ ap (λ (k : ℕ). sum k (λ n. at table n * at c n) % 2 ^ 64) e
 
 -- a box with one variable is a line
 pub line-fits : {size : ℕ} (ds : List ℕ) {c : List ℕ} {room : ℕ} → length ds ≡ 1 → Shaped size ds c → length ds * size ≤ room → length c ≤ room
@@ -86,12 +81,6 @@ pub record Summed (ds c table : List ℕ) (size total e : ℕ) : Type 0 where
 
 module _ {size : ℕ} {ds c : List ℕ} (s : Shaped size ds c) where
   -- the places of the last variable are the last of the table
-  pub last_end : {room : ℕ} → length ds * size ≤ room → (length ds - 1) * size + size ≤ room
-  last_end {room} h =
-      let k : length ds ≡ suc (length ds - 1) = omega (arith, s.some) in
-      let e : length ds * size ≡ (length ds - 1) * size + size = ap (◌* size) k ∙ suc-mul (length ds - 1) size in
-      omega (arith, e, h)
-
   pub others-fit : {room : ℕ} → length ds * size ≤ room → length (others ds) * size ≤ room
   others-fit h = le_trans (mul-le-mul_right size (omega (arith, length-others ds s.some))) h
 

@@ -1,6 +1,6 @@
 -- How many falling products a point has: a box of at most 65,536 cells has few variables or low degrees.
 use Rattle.std.proofs.Common.{ℕ, zero, suc, ◌+◌, ◌*◌, ◌<◌, ◌≤◌, replicate, le_trans, le_refl, lt_irrefl, mul-le-mul, lt_of_not-le, arith}
-use native.Mathlib.Decide.{dec_le}
+use Rattle.std.proofs.Math.Decide.{dec_le}
 use Rattle.meaning.specs.Boxes.{cells}
 use Rattle.theory.specs.Boxes.{cells_pos}
 

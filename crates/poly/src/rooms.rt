@@ -1,4 +1,6 @@
-// The value of a box at a point, with the room that the falling products of the point's coordinates need, in two sizes.
+// The value of a box at a point, with the room that the falling products of the point's coordinates need, in two sizes. What is asked of stays five parameters:
+// as a struct it was tried. By reference a value of four cells took 2 percent more instructions, by value one of two variables of degree 31 took 0.4 percent
+// more, since the large room's function then reads its arguments from memory.
 ghost use Rattle.std.specs.Prelude.{◌≡◌, ◌*◌, ◌^◌, ◌<◌, ◌≤◌, true, length};
 ghost use Rattle.meaning.specs.Settings.{fits_width};
 ghost use Rattle.meaning.specs.Values.{value};
@@ -49,6 +51,7 @@ fn value_in<const ROOM: usize>(
     ensures { result ≡ value (2 ^ bitwidth) degrees.now coeffs.now point.now }
 {
     let places = degrees.len() * size;
+    // There is no heap: of this room the places that are needed are lent.
     let mut products = [0u64; ROOM];
     value_with(
         coeffs,

@@ -1,9 +1,6 @@
 -- Reducing what the conversion to falling factorials left gives the normal form.
-use mathlib.Core.Path.{◌≡◌, sym, ◌∙◌, ap}
-use mathlib.Core.Bool.{false, cond}
-use mathlib.Core.List.{List}
-use Prim.Native.Nat.{ℕ, ◌^◌, ◌≤◌, min}
-use lib.ListN.{length}
+use Rattle.std.specs.Prelude.{◌≡◌, false, cond, List, ℕ, ◌^◌, ◌≤◌, min, length}
+use Rattle.std.proofs.Common.{sym, ◌∙◌, ap}
 use Rattle.meaning.specs.Boxes.{cells}
 use Rattle.meaning.specs.Values.{bound, box_reduced}
 use Rattle.meaning.specs.Conversions.{falling_box, normal_box}

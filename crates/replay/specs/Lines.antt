@@ -13,7 +13,8 @@ digit_read l byte = record l { open_number = Some (((unwrap_or l.open_number 0 *
 abbrev pub put_away : Line → Option ℕ → Line
 put_away l None = record l { open_number = None }
 put_away l (Some value) =
-    cond (nat_lt l.count 128) (record { numbers = slice_set l.numbers l.count value; count = l.count + 1; open_number = None }) (record l { open_number = None })
+    cond (nat_lt l.count 128) (record { numbers = slice_set l.numbers l.count value; count = l.count + 1; open_number = None })
+    (record l { open_number = None })
 
 abbrev pub number_closed : Line → Line
 number_closed l = put_away l l.open_number

@@ -1,5 +1,5 @@
-// The solvers and the fit. A case is `6 WIDTH COLUMNS ROWS ENTRIES`, the matrix and the right side, for the bare solver: the number, the answer, matrix and right
-// side as they are left are printed; `7 WIDTH`, sixteen entries and four right sides, for the four by four solver: the number and the answer; or
+// The solvers and the fit. A case is `6 WIDTH COLUMNS ROWS ENTRIES`, the matrix and the right side, for the bare solver: the number, the answer, matrix and
+// right side as they are left are printed; `7 WIDTH`, sixteen entries and four right sides, for the four by four solver: the number and the answer; or
 // `8 WIDTH MAX GRID K ROWS ENTRIES CELLS`, ROWS weights and ROWS targets, for the fit: the number, degree_used and the CELLS coefficients.
 // Each takes the sink and the line: a struct of these two would be no plainer.
 use crate::print;

@@ -1,11 +1,6 @@
 -- The room of a fit where its settings pass, where they are turned down, and what its counts are.
-use mathlib.Core.Path.{◌≡◌, refl, sym, ap, ap₂, ◌∙◌}
-use mathlib.Core.Bool.{Bool, false, cond}
-use mathlib.Core.List.{List}
-use Prim.Native.Nat.{ℕ, zero, suc, ◌≤◌, ◌<◌, min, zero-le}
-use native.Mathlib.Nat.{suc-ne-zero, le_trans}
-use borrow.Author.Tests.{lt-ltb, le-ltb}
-use lib.ListN.{length}
+use Rattle.std.proofs.Common.{◌≡◌, refl, sym, ap, ap₂, ◌∙◌, Bool, false, cond, List, ℕ, zero, suc, ◌≤◌, ◌<◌, min, zero-le, suc-ne-zero, le_trans, lt-ltb}
+use Rattle.std.proofs.Common.{le-ltb, length}
 use Rattle.meaning.specs.Settings.{table_limit, fits_width, cube, first}
 use Rattle.meaning.specs.Fit.{Fit, fit_rows, fit_columns_of, fit_settings_number}
 use Rattle.meaning.specs.Counts.{fit_room_of, fit_room_lem}

@@ -1,11 +1,6 @@
 -- The room of recovery where its settings pass, where they are turned down, and what its counts are.
-use mathlib.Core.Path.{◌≡◌, refl, sym, ap, ap₂, ◌∙◌}
-use mathlib.Core.Bool.{true}
-use mathlib.Core.List.{List}
-use Prim.Native.Nat.{ℕ, zero, suc, ◌^◌, ◌≤◌, ◌<◌, zero-le}
-use native.Mathlib.Nat.{suc-ne-zero, mul-le-mul, le_trans, le_of_eq, mul_comm, le-mul_of_pos_right}
-use native.Mathlib.Omega.{arith}
-use lib.ListN.{length, replicate, length-replicate, get_or-replicate}
+use Rattle.std.proofs.Common.{◌≡◌, refl, sym, ap, ap₂, ◌∙◌, true, List, ℕ, zero, suc, ◌^◌, ◌≤◌, ◌<◌, zero-le, suc-ne-zero, mul-le-mul, le_trans, le_of_eq, mul_comm, le-mul_of_pos_right, arith, length, replicate}
+use Rattle.std.proofs.Math.ListN.{length-replicate, get_or-replicate}
 use Rattle.meaning.specs.Tables.{at}
 use Rattle.meaning.specs.Sums.{sum}
 use Rattle.meaning.specs.Boxes.{cells}

@@ -1,15 +1,7 @@
 -- The columns counted by running sums: the counts with a variable more are sums of the counts without it, each of as many as the degree and one more.
-use mathlib.Core.Path.{◌≡◌, refl, sym, ap, ◌∙◌}
-use mathlib.Core.Bool.{Bool, cond}
-use mathlib.Core.List.{List, [], ◌∷◌}
-use Prim.Native.Nat.{ℕ, zero, suc, ◌+◌, ◌*◌, ◌-◌, ◌≤◌, ◌<◌, min, zero-le}
-use native.Mathlib.Nat.{le_trans, le_of_eq, le_refl, le-mul_of_pos_right, zero-lt-suc, mul-le-mul_right}
-use native.Mathlib.Decide.{dec_le}
-use native.Mathlib.Omega.{arith}
-use borrow.Author.Tests.{lt-ltb, le-ltb}
-use lib.Dec.{ltb}
-use lib.ListN.{length, drop, drop_of_length-le, get_or-eq_default}
-use lib.Seq.{drop-cons}
+use Rattle.std.proofs.Common.{◌≡◌, refl, sym, ap, ◌∙◌, Bool, cond, List, [], ◌∷◌, ℕ, zero, suc, ◌+◌, ◌*◌, ◌-◌, ◌≤◌, ◌<◌, min, zero-le, le_trans, le_of_eq, le_refl, le-mul_of_pos_right, zero-lt-suc, mul-le-mul_right, arith, lt-ltb, le-ltb, ltb, length, drop, drop_of_length-le, drop-cons}
+use Rattle.std.proofs.Math.Decide.{dec_le}
+use Rattle.std.proofs.Math.ListN.{get_or-eq_default}
 use Rattle.meaning.specs.Tables.{tabulate, at}
 use Rattle.meaning.specs.Sums.{sum}
 use Rattle.meaning.specs.Boxes.{cells}
@@ -68,7 +60,7 @@ module _ (d : ℕ) (f : ℕ → ℕ) where
   leaves-le s = omega (arith, recent-both s)
 
   -- it is no more than its entries allow
-  pub recent-le : (c : ℕ) → ((i : ℕ) → f i ≤ c) → (s : ℕ) → recent s ≤ s * c
+  pub recent-le : (c : ℕ) → ((i : ℕ) → f i ≤ c) → (s : ℕ) → recent s ≤ suc d * c
   recent-le c h s = le_trans (sum-le (min (suc d) s) c (λ e. h (s - suc e))) (mul-le-mul_right c (omega arith))
 
 -- ---- the counts, one variable after another

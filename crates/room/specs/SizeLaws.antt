@@ -1,8 +1,6 @@
 -- What the room of a fit tells of its settings and its counts.
-use Rattle.std.specs.Prelude.{◌≡◌, Bool, true, false, cond, ltb, List, length}
-use Rattle.std.proofs.Math.Path.{refl, sym, ap}
-use Prim.Native.Nat.{ℕ, zero, suc, ◌*◌, ◌≤◌}
-use Rattle.std.proofs.Common.{suc-ne-zero, ltb-false}
+use Rattle.std.specs.Prelude.{◌≡◌, Bool, true, false, cond, ltb, List, length, refl, ℕ, zero, suc, ◌*◌, ◌≤◌}
+use Rattle.std.proofs.Common.{sym, ap, suc-ne-zero, ltb-false}
 use Rattle.meaning.specs.Settings.{table_limit, fits_width, settings_number, first}
 use Rattle.meaning.specs.Fit.{Fit, fit_rows, fit_columns_of, fit_settings_number}
 use Rattle.meaning.specs.Counts.{FitRoom, fit_room_of, fit_room_lem}

@@ -1,4 +1,6 @@
-// How many columns a fit has, without listing them: for each largest sum the exponent lists that keep it, one variable after another.
+// How many columns a fit has, without listing them: for each largest sum the exponent lists that keep it, one variable after another. The library has no heap,
+// so the counts are in arrays, of which the part up to the largest sum is lent. That the box has at most 65,536 cells stands in three contracts, since it is
+// known of the settings, and no type of the degrees holds it.
 ghost use Rattle.std.specs.Prelude.{◌≡◌, cond, ℕ, suc, ◌-◌, ◌≤◌, ◌<◌, min, ltb, length};
 ghost use Rattle.meaning.specs.Tables.{tabulate, at};
 ghost use Rattle.meaning.specs.Sums.{sum};
@@ -19,7 +21,7 @@ fn leaving(counts: &[u64], degree: usize, s: usize) -> u64
 // The counts with a variable of that degree more: the exponent lists with a sum of s at most are those of s, s - 1, .., s - degree with the exponent 0, 1, ..,
 // degree besides. A running sum goes along.
 fn sum_up(counts: &[u64], degree: u8, next: &mut [u64])
-    requires { (length next.old ≡ length counts.now) × (length counts.now ≤ 256) × ((i : ℕ) → at counts.now i ≤ 65536) }
+    requires { (length next.old ≡ length counts.now) × ((i : ℕ) → at counts.now i ≤ 65536) }
     ensures { next.new ≡ tabulate (length next.old) (λ s. sum (suc (min degree s)) (λ e. at counts.now (s - e))) }
 {
     let width = degree as usize;
@@ -32,7 +34,7 @@ fn sum_up(counts: &[u64], degree: u8, next: &mut [u64])
 
 // The same in place. `next` is used up.
 fn add_variable(counts: &mut [u64], next: &mut [u64], degree: u8)
-    requires { (length next.old ≡ length counts.old) × (length counts.old ≤ 256) × ((i : ℕ) → at counts.old i ≤ 65536) }
+    requires { (length next.old ≡ length counts.old) × ((i : ℕ) → at counts.old i ≤ 65536) }
     ensures { counts.new ≡ tabulate (length counts.old) (λ s. sum (suc (min degree s)) (λ e. at counts.old (s - e))) }
 {
     sum_up(counts, degree, next);
@@ -41,7 +43,6 @@ fn add_variable(counts: &mut [u64], next: &mut [u64], degree: u8)
 
 // The counts of one variable of that degree: its exponents are 0, 1, .., the smaller of the degree and the largest sum.
 fn count_one(counts: &mut [u64], degree: u8)
-    requires { length counts.old ≤ 256 }
     ensures { counts.new ≡ tabulate (length counts.old) (λ s. suc (min degree s)) }
 {
     let most = degree as usize;
@@ -52,7 +53,7 @@ fn count_one(counts: &mut [u64], degree: u8)
 
 // The columns for each largest sum that `counts` has a place for: those of the last variable, then one variable after another. `next` is used up.
 fn count_lists(counts: &mut [u64], next: &mut [u64], degrees: &[u8])
-    requires { (length next.old ≡ length counts.old) × (length counts.old ≤ 256) × (cells degrees.now ≤ 65536) × (0 < length degrees.now) }
+    requires { (length next.old ≡ length counts.old) × (cells degrees.now ≤ 65536) × (0 < length degrees.now) }
     ensures { counts.new ≡ tabulate (length counts.old) (λ s. length (columns degrees.now s)) }
 {
     let last = degrees.len() - 1;

@@ -11,7 +11,7 @@ use settings::Settings;
 
 // The settings of a fit: the support variables in their order, the number of variables in all, the width, the highest sum of exponents, and the degree of
 // the grid, which every support variable has.
-#[derive(Clone, Copy)]
+#[derive(Clone, Copy, Debug, PartialEq, Eq)]
 pub struct FitSettings<'a> {
     pub support: &'a [u64],
     pub total: u32,

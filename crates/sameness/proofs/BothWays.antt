@@ -1,12 +1,7 @@
 -- Whole walks are the test both ways: by one walk where the other box lies within the one that is walked, by one comparison where settings are equal, else by
 -- two walks.
-use mathlib.Core.Path.{◌≡◌, refl, sym, ◌∙◌, ap, ap₂}
-use mathlib.Core.Bool.{Bool, true, false, ◌&&◌}
-use mathlib.Core.List.{List}
-use Prim.Native.Nat.{ℕ, ◌≤◌, min}
-use native.Mathlib.Omega.{arith}
-use lib.Dec.{eqb}
-use lib.ListN.{length}
+use Rattle.std.specs.Prelude.{◌≡◌, refl, Bool, true, false, ◌&&◌, List, ℕ, ◌≤◌, min, eqb, length}
+use Rattle.std.proofs.Common.{sym, ◌∙◌, ap, ap₂, arith}
 use Rattle.meaning.specs.Boxes.{cells}
 use Rattle.meaning.specs.Recovery.{every}
 use Rattle.meaning.specs.Sameness.{within, matched}
@@ -38,9 +33,6 @@ module _ {ps ds c qs fs d : List ℕ} (a : Boxed ps ds c) (b : Boxed qs fs d) {l
         few = h;
         low = omega (arith, a.each, a.few);
       }
-
-  pub walked_by : (w : ℕ) {r : Bool} → r ≡ every (cells ds) (is_match w ds c limits steps d 0) → r ≡ walked w ps ds c qs fs d
-  walked_by w r = r ∙ ap₂ (λ (ls ss : List ℕ). every (cells ds) (is_match w ds c ls ss d 0)) e f
 
 -- ---- both ways
 

@@ -1,15 +1,11 @@
 -- Which walks are needed. Once every cell of the first form is matched, a cell of the second that has a partner there is matched too, since its test is the
 -- partner's test; so a second form whose box lies within the first one's need not be walked. With equal support and degrees every cell's partner is the
 -- cell of the same number.
-use mathlib.Core.Path.{◌≡◌, sym, ap, ap₂, subst, ◌∙◌}
-use mathlib.Core.Bool.{true, ◌&&◌, and_self}
-use Prim.Native.Nat.{ℕ, ◌-◌, ◌%◌, ◌^◌, ◌<◌}
-use mathlib.Core.List.{List}
-use native.Mathlib.Nat.{le_trans}
-use native.Mathlib.Decide.{ℕ_discrete}
+use Rattle.std.specs.Prelude.{◌≡◌, true, ◌&&◌, ℕ, ◌-◌, ◌%◌, ◌^◌, ◌<◌, List, eqb, length}
+use Rattle.std.proofs.Common.{sym, ap, ap₂, subst, ◌∙◌, le_trans}
+use Rattle.std.proofs.Math.Bool.{and_self}
+use Rattle.std.proofs.Math.Decide.{ℕ_discrete}
 use borrow.Author.Tests.{eq-eqb, ne_eqb}
-use lib.Dec.{eqb}
-use lib.ListN.{length}
 use Rattle.meaning.specs.Tables.{at}
 use Rattle.meaning.specs.Boxes.{cells, digits, cell, Within, none, next}
 use Rattle.meaning.specs.Values.{bound}
@@ -27,7 +23,8 @@ within_trans : {ls ds es : List ℕ} → Within ls ds → Within ds es → Withi
 within_trans none none = none
 within_trans (next p v) (next q w) = next (le_trans q p) (within_trans v w)
 
-module _ (n w : ℕ) (ps ds c qs fs d : List ℕ) (places : Places n ps) (sized : length ds ≡ length ps) (places' : Places n qs) (sized' : length fs ≡ length qs) where
+module _ (n w : ℕ) (ps ds c qs fs d : List ℕ) (places : Places n ps) (sized : length ds ≡ length ps)
+    (places' : Places n qs) (sized' : length fs ≡ length qs) where
   -- the exponents over all variables of the second form's cells, and their bounds
   E : ℕ → List ℕ
   E k = scattered n qs (digits fs k)

@@ -1,16 +1,9 @@
 -- A variable looked up in a support, place by place: the loop carries that what is asked of the whole lists is asked of what is left of them. A list scattered
 -- over all variables has at a variable what is looked up there, so that limits and steps are tables of look-ups.
-use mathlib.Core.Path.{◌≡◌, refl, sym, ◌∙◌, ap, ap₂, subst}
-use mathlib.Core.Bool.{Bool, true, false, ◌&&◌, cond}
-use mathlib.Core.List.{List, [], ◌∷◌}
-use Prim.Native.Nat.{ℕ, suc, ◌+◌, ◌*◌, ◌≤◌, ◌<◌}
-use native.Mathlib.Decide.{ℕ_discrete}
-use native.Mathlib.Numerals.{add-one}
-use native.Mathlib.Omega.{arith}
+use Rattle.std.specs.Prelude.{◌≡◌, refl, Bool, true, false, ◌&&◌, cond, List, [], ◌∷◌, ℕ, suc, ◌+◌, ◌*◌, ◌≤◌, ◌<◌, leb, length, drop, set}
+use Rattle.std.proofs.Common.{sym, ◌∙◌, ap, ap₂, subst, add-one, arith, drop_of_length-le, drop-cons, get_or-set_same, get_or-set_other}
+use Rattle.std.proofs.Math.Decide.{ℕ_discrete}
 use borrow.Author.Tests.{eq-eqb, ne_eqb, le-leb, lt-leb}
-use lib.Dec.{leb}
-use lib.ListN.{length, drop, set, drop_of_length-le}
-use lib.Seq.{drop-cons, get_or-set_same, get_or-set_other}
 use Rattle.meaning.specs.Tables.{at, tabulate}
 use Rattle.meaning.specs.Boxes.{cells}
 use Rattle.meaning.specs.Sameness.{scattered, picked, within}
@@ -80,9 +73,6 @@ pub record Seeking (v : ℕ) (ps ds : List ℕ) (stride i : ℕ) : Type 0 where
   pub strided : lookup v ps (strides 1 ds) ≡ lookup v (drop i ps) (strides stride (drop i ds))
   pub counted : cells ds ≡ stride * cells (drop i ds)
 
-pub seeking_start : (v : ℕ) (ps ds : List ℕ) → Seeking v ps ds 1 0
-seeking_start v ps ds = record { degrees = refl; strided = refl; counted = omega arith }
-
 module _ {v : ℕ} {ps ds : List ℕ} {stride i : ℕ} (s : Seeking v ps ds stride i) where
   module _ (h : i < length ps) (l : length ds ≡ length ps) where
     degree_here : lookup v ps ds ≡ lookup v (drop i ps) (at ds i ∷ drop (suc i) ds)
@@ -117,9 +107,6 @@ module _ {v : ℕ} {ps ds : List ℕ} {stride i : ℕ} (s : Seeking v ps ds stri
 -- the degrees before place i are within their limits, which the rule f gives
 pub record Covering (n : ℕ) (f : ℕ → ℕ) (ds : List ℕ) (i : ℕ) : Type 0 where
   pub rest : within (tabulate n f) ds ≡ within (drop i (tabulate n f)) (drop i ds)
-
-pub covering_start : (n : ℕ) (f : ℕ → ℕ) (ds : List ℕ) → Covering n f ds 0
-covering_start n f ds = record { rest = refl }
 
 module _ {n : ℕ} {f : ℕ → ℕ} {ds : List ℕ} {i : ℕ} (s : Covering n f ds i) (l : length ds ≡ n) where
   module _ (h : i < n) {x : ℕ} (e : x ≡ f i) where

@@ -1,15 +1,12 @@
 -- The test of the cells is the test of a walk: the coefficient that the other form has of a cell's exponents stands at the place where the walk looks.
 -- The place is the sum of exponent times stride, over all variables as over the support of either form (`dot-scattered`); each law is an induction over the
 -- support by the law of one variable.
-use mathlib.Core.Path.{◌≡◌, refl, sym, ap, ap₂, subst, ◌∙◌}
-use mathlib.Core.Bool.{Bool, true, false, ◌&&◌, cond, and_assoc, and_comm}
-use Prim.Native.Nat.{ℕ, zero, suc, ◌+◌, ◌*◌, ◌%◌, ◌≤◌, ◌<◌, zero-le}
-use mathlib.Core.List.{List, [], ◌∷◌}
-use native.Mathlib.Nat.{not-suc-le-zero, le_of_suc-le-suc, suc-ne-zero, suc_inj, mul-one, zero-add}
-use native.Mathlib.Omega.{arith}
+use Rattle.std.specs.Prelude.{◌≡◌, refl, Bool, true, false, ◌&&◌, cond, ℕ, zero, suc, ◌+◌, ◌*◌, ◌%◌, ◌≤◌, ◌<◌, List, [], ◌∷◌, T, leb, eqb, length, set, replicate}
+use Rattle.std.proofs.Common.{sym, ap, ap₂, subst, ◌∙◌, zero-le, not-suc-le-zero, le_of_suc-le-suc, suc-ne-zero, mul-one, zero-add, arith}
+use Rattle.std.proofs.Math.Bool.{and_assoc, and_comm}
+use Rattle.std.proofs.Math.Nat.{suc_inj}
+use Rattle.std.proofs.Math.ListN.{length-map, get_or-eq_default}
 use borrow.Author.Tests.{le-leb}
-use lib.Dec.{T, leb, eqb}
-use lib.ListN.{length, set, replicate, length-map, get_or-eq_default}
 use Rattle.meaning.specs.Tables.{at}
 use Rattle.meaning.specs.Boxes.{cells, digits, cell}
 use Rattle.meaning.specs.Values.{bound}

@@ -1,10 +1,6 @@
 -- What the call answers: a form that is turned down, or the test; and what is lent on for two forms that pass.
-use mathlib.Core.Path.{◌≡◌, refl, sym, ◌∙◌, ap, ap₂}
-use mathlib.Core.Bool.{Bool, true, false, ◌&&◌}
-use mathlib.Core.List.{List}
-use Prim.Native.Nat.{ℕ, zero, suc, ◌≤◌}
-use lib.Dec.{eqb}
-use lib.ListN.{length, length-replicate}
+use Rattle.std.proofs.Common.{sym, ◌∙◌, ap, ap₂}
+use Rattle.std.proofs.Math.ListN.{length-replicate}
 use borrow.Author.Tests.{eq-eqb}
 use Rattle.meaning.specs.Sameness.{Form, matched, same_forms}
 use Rattle.meaning.specs.Replies.{Reply, accepted, refused}
@@ -19,7 +15,7 @@ use Rattle.demand3.proofs.Comparisons.{form-iff, compared}
 use Rattle.demand3.specs.Also.{also}
 use Rattle.answers.specs.declared.Refusal.{Refusal}
 use Rattle.answers.specs.Said.{code, said_number, said_truth}
-use Rattle.std.specs.Prelude.{Result, Ok, Err, ⊤}
+use Rattle.std.specs.Prelude.{◌≡◌, refl, Bool, true, false, ◌&&◌, List, ℕ, zero, suc, ◌≤◌, eqb, length, Result, Ok, Err, ⊤}
 use Rattle.answers.specs.Laws.{reply-code, first_code}
 use Rattle.settings.specs.Causes.{passes}
 use Rattle.settings.specs.Forms.{degrees_of, form_of}

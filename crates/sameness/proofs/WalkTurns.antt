@@ -1,15 +1,11 @@
 -- The walk over the sub-boxes of the last variable. In the sub-box of the last exponent e the bits are fewer by the twos in e!, and the place is further by
 -- the way of e, so that the tests of a sub-box are those of its part of the table.
-use mathlib.Core.Path.{◌≡◌, refl, sym, ◌∙◌, ap, ap₂}
-use mathlib.Core.Bool.{Bool, true}
-use mathlib.Core.List.{List, [], ◌∷◌, ◌++◌}
-use Prim.Native.Nat.{ℕ, suc, ◌+◌, ◌*◌, ◌-◌, ◌%◌, ◌^◌, ◌≤◌, ◌<◌}
-use native.Mathlib.Nat.{suc-ne-zero, suc_inj, mod-one, mod-eq_of_lt, add_assoc, add_comm, add-zero}
-use native.Mathlib.Omega.{arith}
+use Rattle.std.specs.Prelude.{◌≡◌, Bool, true, List, [], ◌∷◌, ◌++◌, ℕ, suc, ◌+◌, ◌*◌, ◌-◌, ◌%◌, ◌^◌, ◌<◌, eqb, bit_and, length, take, get_or}
+use Rattle.std.proofs.Common.{sym, ◌∙◌, ap, ap₂, suc-ne-zero, mod-eq_of_lt, add_assoc, add_comm, add-zero, arith}
+use Rattle.std.proofs.Math.Nat.{suc_inj, mod-one}
+use Rattle.std.specs.Int.Bits.{and_mask}
+use Rattle.std.proofs.Math.ListN.{length-map}
 use borrow.Author.Tests.{eq-eqb}
-use lib.Dec.{eqb}
-use lib.Bits.{bit_and, and_mask}
-use lib.ListN.{length, take, get_or, length-map}
 use Rattle.std.proofs.lemmas.List.{get_or-map, take-map}
 use Rattle.meaning.specs.Tables.{at}
 use Rattle.meaning.specs.Factorials.{factorial, twos}
@@ -21,9 +17,9 @@ use Rattle.theory.specs.Every.{true-iff, every-iff, every_cong}
 use Rattle.theory.specs.LastVariable.{others, final, others-final, length-others, digits-snoc}
 use Rattle.theory.specs.Parts.{part, part-entry}
 use Rattle.box_rows.specs.Lines.{LineMask}
-use Rattle.box_rows.specs.Walks.{walk_exponent, walk_part}
-use Rattle.box_rows.specs.Tested.{Tested, tested_fits, tested_bound}
-use Rattle.sameness.specs.Places.{far, way_of, place_of, is_match}
+use Rattle.box_rows.specs.Walks.{walk_exponent}
+use Rattle.box_rows.specs.Tested.{Tested, tested_bound}
+use Rattle.sameness.specs.Places.{way_of, place_of, is_match}
 use Rattle.sameness.specs.Lent.{Walkable}
 use Rattle.sameness.specs.Partners.{limits_of, steps_of}
 use Rattle.sameness.specs.declared.partner.Partner.{Partner}
@@ -65,7 +61,8 @@ module _ (w : ℕ) (ds c limits steps other : List ℕ) (place : ℕ) where
           one : (n : ℕ) → n < 1 * suc d → is_match w (d ∷ []) c (x ∷ []) (s ∷ []) other place n ≡ line_match w c x s other place n
           one n p =
               let small : n % suc d ≡ n = mod-eq_of_lt (omega (arith, p)) in
-              ap (λ (i : ℕ). eqb (at c n % 2 ^ (w - (twos (factorial i) + 0))) (at other (place + (way_of x s i + 0)) % 2 ^ (w - (twos (factorial i) + 0)))) small
+              ap (λ (i : ℕ). eqb (at c n % 2 ^ (w - (twos (factorial i) + 0)))
+              (at other (place + (way_of x s i + 0)) % 2 ^ (w - (twos (factorial i) + 0)))) small
               ∙ ap₂ (λ (q i : ℕ). eqb (at c n % 2 ^ (w - q)) (at other (place + i) % 2 ^ (w - q))) (add-zero (twos (factorial n))) (add-zero (way_of x s n))
       go [] ls ss e k l = absurd (suc-ne-zero 0 (sym e))
       go (d ∷ (d' ∷ ds)) ls ss e k l = absurd (suc-ne-zero (length ds) (suc_inj e))
@@ -140,23 +137,9 @@ module _ {w : ℕ} {ds c limits steps : List ℕ} {place : ℕ} (lent : Walkable
         ∙ ap₂ (λ (xs ys : List ℕ). place_of xs ys es + way_of (final limits) (final steps) e) cut-limits cut-steps
         ∙ ap₂ (λ (k j : ℕ). place_of ls ss es + way_of (at limits (k - 1)) (at steps (j - 1)) e) lent.limited lent.stepped))
 
-    -- what is lent on
-    pub walkable_part : (length ds ≡ 1 → ⊥) → on ≤ far → Walkable (others ds) (part from (from + size) c) ls ss left (place + on)
-    walkable_part ne near =
-        let n : length (others ds) ≡ length ds - 1 = length-others ds lent.some in
-        let m : length (part from (from + size) c) ≡ cells (others ds) = walk_part r.walk h c refl in
-        record {
-          some = omega (arith, lent.some);
-          whole = m;
-          size = omega (arith, r.walk.sized, tested_fits r h, lent.size);
-          limited = length-cut-limits ∙ sym n;
-          stepped = length-cut-steps ∙ sym n;
-          few = omega (arith, r.bits, lent.few);
-          low = omega (arith, lent.low, lent.some);
-        }
-
     -- the tests of a sub-box are those of its part, with the bits that are left and from its own place on
-    pub matching_part : {b : Bool} {there : ℕ} → there ≡ place + on → b ≡ every (cells (others ds)) (is_match left (others ds) (part from (from + size) c) ls ss other there)
+    pub matching_part : {b : Bool} {there : ℕ} → there ≡ place + on
+        → b ≡ every (cells (others ds)) (is_match left (others ds) (part from (from + size) c) ls ss other there)
         → b ≡ every size (λ i. is_match w ds c limits steps other place (from + i))
     matching_part p q =
         q
@@ -200,9 +183,10 @@ match_line w ds c ps other place d one lent =
 
 -- the tests of a sub-box, with the partners of the other variables and its own place, are those of its part
 pub matching_turn : {w : ℕ} {ds c : List ℕ} {place : ℕ} (ps : List Partner) (lent : Walkable ds c (limits_of ps) (steps_of ps) w place) (other : List ℕ)
-    {size left e from : ℕ} (r : Matching w ds c (limits_of ps) (steps_of ps) other place size left e from) (h : from < length c) (d : Partner) {b : Bool} {way : ℕ}
-    → way ≡ way_of (get_or ps (length ds - 1) d).limit (get_or ps (length ds - 1) d).step e
-    → b ≡ every (cells (others ds)) (is_match left (others ds) (part from (from + size) c) (limits_of (take (length ds - 1) ps)) (steps_of (take (length ds - 1) ps)) other (place + way))
+    {size left e from : ℕ} (r : Matching w ds c (limits_of ps) (steps_of ps) other place size left e from) (h : from < length c) (d : Partner)
+    {b : Bool} {way : ℕ} → way ≡ way_of (get_or ps (length ds - 1) d).limit (get_or ps (length ds - 1) d).step e
+    → b ≡ every (cells (others ds))
+    (is_match left (others ds) (part from (from + size) c) (limits_of (take (length ds - 1) ps)) (steps_of (take (length ds - 1) ps)) other (place + way))
     → b ≡ every size (λ i. is_match w ds c (limits_of ps) (steps_of ps) other place (from + i))
 matching_turn {w} {ds} {c} {place} ps lent other {size} {left} {e} {from} r h d {b} {way} q t =
     let last : length ds - 1 < length ps = omega (arith, length-partners ps lent, lent.some) in

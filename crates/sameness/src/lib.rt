@@ -21,12 +21,13 @@ use partner::Partner;
 use settings::Form;
 use walk::Part;
 
-// Whether each coefficient of the first form is matched in the second. There is no heap: the partners stand in room for twenty variables.
+// Whether each coefficient of the first form is matched in the second.
 fn matched_in(form1: &Checked, form2: &Checked, bits: u32) -> bool
     requires { bits ≤ 64 }
     ensures { let f = form1.now in let g = form2.now in
         result ≡ walked bits f.support.now f.degrees.now f.coeffs.now g.support.now g.degrees.now g.coeffs.now }
 {
+    // There is no heap: room for twenty variables, of which those of the form are lent.
     let mut partners = [Partner { limit: 0, step: 0 }; 20];
     form1.find_partners(form2, &mut partners);
     let whole = Part {

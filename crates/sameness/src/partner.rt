@@ -3,7 +3,7 @@ ghost use Rattle.std.specs.Prelude.{◌≡◌, ◌≤◌};
 ghost use Rattle.sameness.specs.Places.{far, way_of};
 
 // Both are 0 where the other form has not the variable.
-#[derive(Clone, Copy)]
+#[derive(Clone, Copy, Debug, PartialEq, Eq)]
 pub(crate) struct Partner {
     pub(crate) limit: u8,
     pub(crate) step: u64,

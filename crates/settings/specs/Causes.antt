@@ -1,9 +1,7 @@
 -- Laws of the settings of a call: the causes before the size of the box by themselves, and what holds where no cause does.
-use Rattle.std.specs.Prelude.{◌≡◌, refl, Bool, ◌&&◌, ◌||◌, cond, List, [], ◌∷◌, ℕ, zero, suc, ◌≤◌, ◌<◌, ltb, eqb, length, take, replicate}
-use Rattle.std.proofs.Common.{sym, ◌∙◌, ap, le_trans, lt_irrefl, le_of_suc-le-suc, not-suc-le-zero, suc-ne-zero, arith}
-use Rattle.std.proofs.Math.Path.{ap₂}
-use Rattle.std.proofs.Math.Bool.{true, false, or-false, or_self}
-use Rattle.std.proofs.Math.Dec.{leb}
+use Rattle.std.specs.Prelude.{◌≡◌, refl, Bool, ◌&&◌, ◌||◌, cond, List, [], ◌∷◌, ℕ, zero, suc, ◌≤◌, ◌<◌, ltb, eqb, length, take, replicate, true, false, leb}
+use Rattle.std.proofs.Common.{sym, ◌∙◌, ap, le_trans, lt_irrefl, le_of_suc-le-suc, not-suc-le-zero, suc-ne-zero, arith, ap₂}
+use Rattle.std.proofs.Math.Bool.{or-false, or_self}
 use borrow.Author.Tests.{ltb-false, le-ltb, le-leb, lt-leb, leb-false, eqb-false, eq-eqb, ne_eqb}
 use Rattle.meaning.specs.Boxes.{cells}
 use Rattle.meaning.specs.Settings.{fits_width, table_limit, some, repeated, limited_number, cube, first}

@@ -1,14 +1,9 @@
 -- Lists of indices. A test of the entries is carried along the part of the list that is still to be looked at, so that a loop over the entries keeps one
 -- equation; repeated entries are found by marks. Distinct indices below n are at most n, since each number below n stands at most once among them.
-use Rattle.std.specs.Prelude.{◌≡◌, ◌||◌, cond, List, [], ◌∷◌, leb, set, replicate}
+use Rattle.std.specs.Prelude.{◌≡◌, ◌||◌, cond, List, [], ◌∷◌, leb, set, replicate, refl, Bool, true, false, ℕ, zero, suc, ◌+◌, ◌≤◌, ◌<◌, eqb, length, get_or, drop}
 use Rattle.std.specs.List.{list_any}
-use Rattle.std.proofs.Math.Path.{refl, sym, ap}
-use Rattle.std.proofs.Common.{◌∙◌, ap₂, true≢false, le_of_suc-le-suc, not-suc-le-zero, add-one, arith, drop_of_length-le, drop-cons, get_or-set_same}
-use Rattle.std.proofs.Math.Bool.{Bool, true, false, or_assoc, or-true, or-false}
-use Prim.Native.Nat.{ℕ, zero, suc, ◌+◌, ◌≤◌, ◌<◌}
-use Rattle.std.proofs.Math.Dec.{eqb}
-use Rattle.std.proofs.Math.ListN.{length, get_or, drop}
-use Rattle.std.proofs.Math.Seq.{get_or-set_other}
+use Rattle.std.proofs.Common.{sym, ap, ◌∙◌, ap₂, true≢false, le_of_suc-le-suc, not-suc-le-zero, add-one, arith, drop_of_length-le, drop-cons, get_or-set_same, get_or-set_other}
+use Rattle.std.proofs.Math.Bool.{or_assoc, or-true, or-false}
 use borrow.Author.Tests.{leb-false, eqb-true, eqb-false, eq-eqb, ne_eqb}
 use Rattle.meaning.specs.Tables.{at}
 use Rattle.meaning.specs.Sums.{sum}

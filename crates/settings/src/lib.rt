@@ -47,7 +47,7 @@ pub fn count_cells(degrees: &[u8], limit: u32) -> u64
 
 // The settings of a call on a box: the support variables in their order, the number of variables in all, the width, and the highest degree, which every
 // support variable has.
-#[derive(Clone, Copy)]
+#[derive(Clone, Copy, Debug, PartialEq, Eq)]
 pub struct Settings<'a> {
     pub support: &'a [u64],
     pub total: u32,
@@ -113,7 +113,7 @@ impl<'a> Settings<'a> {
 }
 
 // A form: settings, and a table of coefficients.
-#[derive(Clone, Copy)]
+#[derive(Clone, Copy, Debug, PartialEq, Eq)]
 pub struct Form<'a> {
     pub settings: Settings<'a>,
     pub coeffs: &'a [u64],

@@ -1,13 +1,8 @@
 -- What the answer of the degree cap says of the width, and how large the tables are.
-use mathlib.Core.Path.{◌≡◌, refl, sym, ◌∙◌, ap}
-use Rattle.std.specs.Prelude.{⊤, Result, Ok, Err, eqb}
+use Rattle.std.specs.Prelude.{◌≡◌, refl, ⊤, Result, Ok, Err, eqb, Bool, true, false, cond, ℕ, pred, ◌*◌, ◌≤◌}
 use Rattle.std.specs.Result.{is_err}
-use Rattle.std.proofs.Common.{true≢false}
+use Rattle.std.proofs.Common.{sym, ◌∙◌, ap, true≢false, suc-ne-zero, mul-le-mul_right, arith}
 use borrow.Author.Tests.{ne_eqb}
-use mathlib.Core.Bool.{Bool, true, false, cond}
-use Prim.Native.Nat.{ℕ, pred, ◌*◌, ◌≤◌}
-use native.Mathlib.Nat.{suc-ne-zero, mul-le-mul_right}
-use native.Mathlib.Omega.{arith}
 use Rattle.meaning.specs.Factorials.{degree_cap_of}
 use Rattle.meaning.specs.Replies.{Reply, accepted, refused}
 use Rattle.meaning.specs.Leaves.{cap_reply}

@@ -1,13 +1,8 @@
 -- Singleton powers. A table has a line of `size` cells for each variable. A line is a box of one variable, whose settings pass; the lines are done one
 -- after the other, and what is kept is that those before a place are accepted and that the output below the place is the answer's.
-use Rattle.std.specs.Prelude.{◌≡◌, refl, true, ◌&&◌, ◌⊎◌, T, length, set, take, drop}
-use Rattle.std.proofs.Math.Path.{sym, ap}
-use Rattle.std.proofs.Common.{◌∙◌, ap₂, subst, inl, inr, not-suc-le-zero, eq-or-lt_of_le, le_of_suc-le-suc, suc-ne-zero, suc-mul, zero-mul, mul-le-mul_right, lt_of_mul-lt-mul_right, arith, length-set, get_or-set_same, get_or-set_other}
-use Rattle.std.proofs.Math.Bool.{Bool, false, cond}
-use mathlib.Core.List.{List, [], ◌∷◌}
-use Prim.Native.Nat.{ℕ, zero, suc, pred, ◌+◌, ◌*◌, ◌-◌, ◌/◌, ◌%◌, ◌≤◌, ◌<◌}
+use Rattle.std.specs.Prelude.{◌≡◌, refl, true, ◌&&◌, ◌⊎◌, T, length, set, take, drop, Bool, false, cond, List, [], ◌∷◌, ℕ, zero, suc, pred, ◌+◌, ◌*◌, ◌-◌, ◌/◌, ◌%◌, ◌≤◌, ◌<◌, ltb, eqb}
+use Rattle.std.proofs.Common.{sym, ap, ◌∙◌, ap₂, subst, inl, inr, not-suc-le-zero, eq-or-lt_of_le, le_of_suc-le-suc, suc-ne-zero, suc-mul, zero-mul, mul-le-mul_right, lt_of_mul-lt-mul_right, arith, length-set, get_or-set_same, get_or-set_other}
 use borrow.Author.Tests.{lt-ltb, le-ltb, eq-eqb, ne_eqb}
-use Rattle.std.proofs.Math.Dec.{ltb, eqb}
 use Rattle.std.proofs.Math.Arith.{digits_div, digits_mod}
 use Rattle.meaning.specs.Tables.{tabulate, at}
 use Rattle.meaning.specs.Factorials.{degree_cap_of}
@@ -187,7 +182,8 @@ module _ (w size : ℕ) (v t₀ : List ℕ) where
               ∙ ap₂ (λ (q k : ℕ). cond (eqb k 0) 0 (at (answer w (one_line size) (line size v q)) k)) (sym d) (sym m)
 
       -- a line is not accepted
-      pub lines_fail : {t' : List ℕ} {n : ℕ} → length v ≡ n * size → (r : Refusal) → Single w (part from (from + size) v) ys (code r) → Singles w size n v t' (code r)
+      pub lines_fail : {t' : List ℕ} {n : ℕ} → length v ≡ n * size → (r : Refusal)
+          → Single w (part from (from + size) v) ys (code r) → Singles w size n v t' (code r)
       unfolding singleton_accepts
       lines_fail {t'} {n} whole r' s =
           record {

@@ -1,5 +1,6 @@
 // Singleton powers: for each variable alone, the others held at 0, the coefficients of its falling factorials without the constant. Each variable's
-// values are recovered as a box of one variable, and the constant is then set to 0.
+// values are recovered as a box of one variable, and the constant is then set to 0. Values, width and output are three parameters of each function: the tables
+// are cut line by line, so that a struct of them would be made anew for each line.
 #![tactic(auto)]
 
 ghost use Rattle.std.specs.Prelude.{◌≡◌, true, ℕ, ◌*◌, ◌≤◌, ◌<◌, length};
@@ -57,6 +58,7 @@ pub fn recover_singleton_powers(
     if 20 < num_vars {
         return Err(Refusal::TooManyVariables);
     }
+    // its one refusal is another here: a closure for `map_err`, which would look at nothing, is no plainer
     let Ok(cap) = math_utils::degree_cap(bitwidth) else {
         return Err(Refusal::WidthOutOfRange);
     };

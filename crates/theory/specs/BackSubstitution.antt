@@ -1,11 +1,8 @@
 -- Back-substitution. The value of a column depends on the columns after it only, and a column keeps the value that it was given; so the values at
 -- the end are, column for column, those that the definition computes from them. Each pivot row is then solved, every unused row is 0 all along,
 -- and the elimination has kept the solutions: what succeeds solves the system.
-use Rattle.std.specs.Prelude.{◌≡◌, ◌↔◌, Bool, true, false, ◌&&◌, ◌||◌, cond, T, ltb}
-use Rattle.std.proofs.Math.Path.{refl, sym, ap}
-use Rattle.std.proofs.Common.{subst, ◌∙◌, true≢false, not-suc-le-zero, le_refl, le_of_lt, ne_of_gt, zero-mul, zero-add, mul_comm, arith, ltb→lt, lt→ltb, eqb→eq, pow_pos, eq-eqb, ne_eqb}
-use Prim.Native.Nat.{ℕ, zero, suc, ◌+◌, ◌*◌, ◌-◌, ◌%◌, ◌^◌, ◌≤◌, ◌<◌}
-use Rattle.std.proofs.Math.Dec.{eqb}
+use Rattle.std.specs.Prelude.{◌≡◌, ◌↔◌, Bool, true, false, ◌&&◌, ◌||◌, cond, T, ltb, refl, ℕ, zero, suc, ◌+◌, ◌*◌, ◌-◌, ◌%◌, ◌^◌, ◌≤◌, ◌<◌, eqb}
+use Rattle.std.proofs.Common.{sym, ap, subst, ◌∙◌, true≢false, not-suc-le-zero, le_refl, le_of_lt, ne_of_gt, zero-mul, zero-add, mul_comm, arith, ltb→lt, lt→ltb, eqb→eq, pow_pos, eq-eqb, ne_eqb}
 use Rattle.meaning.specs.Sums.{sum}
 use Rattle.meaning.specs.Factorials.{twos_of}
 use Rattle.meaning.specs.Differences.{minus}

@@ -1,12 +1,6 @@
 -- The fit's columns: exactly the exponent lists of the box with a total degree up to `most`, each once, in order; and no other list is so.
-use Rattle.std.specs.Prelude.{◌≡◌, ◌↔◌, ◌⊎◌, Bool, true, false, T, leb, get_or}
-use Rattle.std.proofs.Math.Path.{refl, sym, ap, subst}
-use Rattle.std.proofs.Common.{ap₂, ◌∙◌, inl, inr, ⊎_elim, not-suc-le-zero, le_of_suc-le-suc, le_refl, eq-or-lt_of_le, arith, leb-true, leb-false}
-use Rattle.std.proofs.Math.Bool.{cond}
-use Prim.Native.Nat.{ℕ, zero, suc, ◌≤◌, ◌<◌}
-use mathlib.Core.List.{List, [], ◌∷◌}
-use Rattle.std.proofs.Math.Nat.{lt_irrefl}
-use Rattle.std.proofs.Math.ListN.{length}
+use Rattle.std.specs.Prelude.{◌≡◌, ◌↔◌, ◌⊎◌, Bool, true, false, T, leb, get_or, refl, cond, ℕ, zero, suc, ◌≤◌, ◌<◌, List, [], ◌∷◌, length}
+use Rattle.std.proofs.Common.{sym, ap, subst, ap₂, ◌∙◌, inl, inr, ⊎_elim, not-suc-le-zero, le_of_suc-le-suc, le_refl, eq-or-lt_of_le, arith, leb-true, leb-false, lt_irrefl}
 use Rattle.meaning.specs.Boxes.{cells, digits, cell, Within}
 use Rattle.meaning.specs.Fit.{total, before, insert, columns_to, columns}
 use Rattle.theory.specs.Boxes.{digits-within, length-within, cell-lt, cell-digits, digits-cell}

@@ -1,9 +1,7 @@
 -- Laws of the conversions of a coefficient box: conversions modulo a multiple of n are, modulo n, those modulo n; the two undo one another; and
 -- neither changes a value, nor does the normal form. Both are transforms by a matrix of Stirling numbers.
-use Rattle.std.specs.Prelude.{◌≡◌, List, length}
-use Rattle.std.proofs.Math.Path.{sym, ap}
-use Rattle.std.proofs.Common.{◌∙◌, mod-lt, mul_comm}
-use Prim.Native.Nat.{ℕ, suc, ◌*◌, ◌%◌, ◌^◌, ◌<◌}
+use Rattle.std.specs.Prelude.{◌≡◌, List, length, ℕ, suc, ◌*◌, ◌%◌, ◌^◌, ◌<◌}
+use Rattle.std.proofs.Common.{sym, ap, ◌∙◌, mod-lt, mul_comm}
 use Rattle.meaning.specs.Tables.{tabulate, at}
 use Rattle.meaning.specs.Factorials.{falling}
 use Rattle.meaning.specs.Boxes.{cells, digits, along}

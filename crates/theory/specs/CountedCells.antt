@@ -1,10 +1,6 @@
 -- The cells of a box, counted variable by variable.
-use Rattle.std.specs.Prelude.{◌≡◌, length, drop}
-use Rattle.std.proofs.Common.{◌∙◌, le-mul_of_pos_right, add-one, arith, drop_of_length-le, drop-cons}
-use Rattle.std.proofs.Math.Path.{ap}
-use mathlib.Core.List.{List}
-use Prim.Native.Nat.{ℕ, suc, ◌+◌, ◌*◌, ◌≤◌, ◌<◌}
-use Rattle.std.proofs.Math.Nat.{mul-one}
+use Rattle.std.specs.Prelude.{◌≡◌, length, drop, List, ℕ, suc, ◌+◌, ◌*◌, ◌≤◌, ◌<◌}
+use Rattle.std.proofs.Common.{◌∙◌, le-mul_of_pos_right, add-one, arith, drop_of_length-le, drop-cons, ap, mul-one}
 use Rattle.meaning.specs.Tables.{at}
 use Rattle.meaning.specs.Boxes.{cells}
 use Rattle.theory.specs.Boxes.{cells_pos}

@@ -1,14 +1,9 @@
 -- Polynomials of any exponents, modulo m. Where every power of a coordinate is a sum of falling factorials to at most its degree, a polynomial, whatever its
 -- exponents, has at that point the value of a box: each term is cut to the box by Stirling's numbers. That is so at every grid point, where a falling
 -- factorial above the degree is 0.
-use Rattle.std.specs.Prelude.{◌≡◌, ℤ, ◌*ℤ◌, drop}
-use Rattle.std.proofs.Math.Path.{sym}
-use Rattle.std.proofs.Common.{◌∙◌, inr, arith}
-use Prim.Native.Nat.{ℕ, suc, ◌+◌, ◌*◌, ◌%◌, ◌^◌, ◌≤◌, ◌<◌}
-use mathlib.Core.List.{List, [], ◌∷◌, map}
+use Rattle.std.specs.Prelude.{◌≡◌, ℤ, ◌*ℤ◌, drop, ℕ, suc, ◌+◌, ◌*◌, ◌%◌, ◌^◌, ◌≤◌, ◌<◌, List, [], ◌∷◌, map, pos, length}
+use Rattle.std.proofs.Common.{sym, ◌∙◌, inr, arith}
 use Rattle.std.proofs.Math.Nat.{mod-le}
-use Rattle.std.proofs.Math.IntN.{pos}
-use Rattle.std.proofs.Math.ListN.{length}
 use Rattle.meaning.specs.Tables.{tabulate, at}
 use Rattle.meaning.specs.Sums.{sum}
 use Rattle.meaning.specs.Factorials.{falling}

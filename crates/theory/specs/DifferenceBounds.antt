@@ -1,7 +1,6 @@
 -- Differences of numbers below m are below m, and recovery's differences below 2^w.
 use Rattle.std.specs.Prelude.{List, [], ◌∷◌, ℕ, zero, suc, ◌^◌, ◌<◌}
-use Rattle.std.proofs.Math.Nat.{mod-lt}
-use Rattle.std.proofs.Common.{pow_pos}
+use Rattle.std.proofs.Common.{mod-lt, pow_pos}
 use Rattle.meaning.specs.Tables.{at}
 use Rattle.meaning.specs.Boxes.{cell, along, Within, none, next}
 use Rattle.meaning.specs.Differences.{diff, diffs, newton, differences, grid}

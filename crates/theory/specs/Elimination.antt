@@ -1,9 +1,8 @@
 -- A step of the elimination keeps the kernel, hence the solutions, and so does the whole pass.
 -- The pivot row and used rows stay; every other row loses a multiple of the pivot row. Where there is no pivot every multiplier is 0.
-use Rattle.std.specs.Prelude.{◌≡◌, ◌↔◌, Bool, true, false, ◌||◌, ℕ, zero, suc, ◌+◌, ◌*◌, ◌^◌, ◌<◌, eqb}
-use Rattle.std.proofs.Math.Path.{refl, ap}
-use Rattle.std.proofs.Common.{sym, ◌∙◌, ⊎_elim, zero-mul, mul-zero, add-zero, pow_pos, eq-eqb, ne_eqb}
-use Rattle.std.proofs.Math.Bool.{cond, or-true}
+use Rattle.std.specs.Prelude.{◌≡◌, ◌↔◌, Bool, true, false, ◌||◌, ℕ, zero, suc, ◌+◌, ◌*◌, ◌^◌, ◌<◌, eqb, refl, cond}
+use Rattle.std.proofs.Common.{ap, sym, ◌∙◌, ⊎_elim, zero-mul, mul-zero, add-zero, pow_pos, eq-eqb, ne_eqb}
+use Rattle.std.proofs.Math.Bool.{or-true}
 use Rattle.meaning.specs.Sums.{sum}
 use Rattle.meaning.specs.Differences.{minus}
 use Rattle.meaning.specs.Elimination.{quotient, State, start, height, chosen, step, forward, eliminated}

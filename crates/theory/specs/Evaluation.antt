@@ -2,9 +2,8 @@
 -- the variables. With binomial coefficients for f it is Newton's series, with falling factorials the value of a coefficient box, with powers that
 -- of a polynomial, with Stirling numbers a conversion.
 -- Every law is an induction over the variables by `eval-cons`, with the law of one variable at each step.
-use Rattle.std.specs.Prelude.{◌≡◌, refl, ℕ, suc, ◌+◌, ◌*◌, ◌%◌, ◌≤◌, ◌<◌, length, drop}
+use Rattle.std.specs.Prelude.{◌≡◌, refl, ℕ, suc, ◌+◌, ◌*◌, ◌%◌, ◌≤◌, ◌<◌, length, drop, List, [], ◌∷◌}
 use Rattle.std.proofs.Common.{sym, ap, ◌∙◌, suc-le-suc, zero-lt-suc, le_of_suc-le-suc, mul-add, mul-pos, arith}
-use mathlib.Core.List.{List, [], ◌∷◌}
 use Rattle.meaning.specs.Tables.{at}
 use Rattle.meaning.specs.Sums.{sum}
 use Rattle.meaning.specs.Factorials.{falling}

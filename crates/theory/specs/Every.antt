@@ -1,7 +1,6 @@
 -- A test of all numbers below a bound, also one part after the other, and the search for the least number below a bound at which a statement fails.
 use Rattle.std.specs.Prelude.{◌≡◌, refl, Bool, true, false, ◌&&◌, ◌⊎◌, ◌↔◌, ℕ, zero, suc, ◌+◌, ◌-◌, ◌≤◌, ◌<◌, T}
-use Rattle.std.proofs.Math.Path.{sym, ap}
-use Rattle.std.proofs.Common.{ap₂, subst, ◌∙◌, inl, inr, ⊎_elim, suc-le-suc, zero-lt-suc, not-suc-le-zero, le_of_suc-le-suc, eq-or-lt_of_le, add-zero, zero-add, suc-add, add_assoc, sub-eq-zero_of_le, arith}
+use Rattle.std.proofs.Common.{sym, ap, ap₂, subst, ◌∙◌, inl, inr, ⊎_elim, suc-le-suc, zero-lt-suc, not-suc-le-zero, le_of_suc-le-suc, eq-or-lt_of_le, add-zero, zero-add, suc-add, add_assoc, sub-eq-zero_of_le, arith}
 use Rattle.std.proofs.Math.Bool.{and_assoc, and-true}
 use Rattle.std.proofs.Math.Nat.{sub-zero}
 use Rattle.meaning.specs.Recovery.{every}

@@ -1,12 +1,8 @@
 -- Falling products modulo m, taken factor by factor until they are zero: one step, when to stop, and how many factors there are at most.
-use Rattle.std.specs.Prelude.{◌≡◌, ◌⊎◌, true, List, length}
-use Rattle.std.proofs.Math.Path.{refl}
-use Rattle.std.proofs.Common.{sym, ap, subst, ◌∙◌, inr, not-suc-le-zero, eq-or-lt_of_le, le_of_suc-le-suc, le_of_lt, lt_of_not-le, lt_irrefl, lt_of_lt_of_le, zero-lt-suc, mod-eq_of_lt, mul_assoc, add-zero, add-one, pow-add}
-use Rattle.std.proofs.Math.Logic.{inl}
-use Prim.Native.Nat.{ℕ, zero, suc, ◌+◌, ◌-◌, ◌*◌, ◌%◌, ◌^◌, ◌≤◌, ◌<◌, zero-le}
+use Rattle.std.specs.Prelude.{◌≡◌, ◌⊎◌, true, List, length, refl, ℕ, zero, suc, ◌+◌, ◌-◌, ◌*◌, ◌%◌, ◌^◌, ◌≤◌, ◌<◌}
+use Rattle.std.proofs.Common.{sym, ap, subst, ◌∙◌, inr, not-suc-le-zero, eq-or-lt_of_le, le_of_suc-le-suc, le_of_lt, lt_of_not-le, lt_irrefl, lt_of_lt_of_le, zero-lt-suc, mod-eq_of_lt, mul_assoc, add-zero, add-one, pow-add, inl, zero-le, arith}
 use Rattle.std.proofs.Math.Nat.{zero-mod, mul-mod_right}
 use Rattle.std.proofs.Math.Decide.{dec_le}
-use native.Mathlib.Omega.{arith}
 use Rattle.meaning.specs.Tables.{tabulate}
 use Rattle.meaning.specs.Settings.{fits_width}
 use Rattle.meaning.specs.Leaves.{falling_told, falling_reply, products_left}

@@ -1,11 +1,8 @@
 -- The box of a fit, cell by cell: a column's cell has the column's value modulo its bound, every other cell 0; and the degree used is the largest
 -- total degree among the columns whose reduced value is not 0.
-use Rattle.std.specs.Prelude.{◌≡◌, refl, ◌⊎◌, Bool, true, false, List, [], leb, eqb, length, get_or}
-use Rattle.std.proofs.Common.{sym, ap, ◌∙◌, inr, not-suc-le-zero, le_of_suc-le-suc, zero-lt-suc, le_of_eq, lt_of_lt_of_le, lt_irrefl, arith, leb-true, leb-false, ne_eqb}
-use Rattle.std.proofs.Math.Logic.{inl, ⊎_elim}
-use Rattle.std.proofs.Math.Bool.{cond}
-use Prim.Native.Nat.{ℕ, zero, suc, ◌%◌, ◌≤◌, ◌<◌, max, zero-le, suc-le-suc}
-use Rattle.std.proofs.Math.Nat.{le_trans, le_antisymm, zero-mod}
+use Rattle.std.specs.Prelude.{◌≡◌, refl, ◌⊎◌, Bool, true, false, List, [], leb, eqb, length, get_or, cond, ℕ, zero, suc, ◌%◌, ◌≤◌, ◌<◌, max}
+use Rattle.std.proofs.Common.{sym, ap, ◌∙◌, inr, not-suc-le-zero, le_of_suc-le-suc, zero-lt-suc, le_of_eq, lt_of_lt_of_le, lt_irrefl, arith, leb-true, leb-false, ne_eqb, inl, ⊎_elim, zero-le, suc-le-suc, le_trans, le_antisymm}
+use Rattle.std.proofs.Math.Nat.{zero-mod}
 use Rattle.std.proofs.Math.Decide.{dec_le}
 use Rattle.std.proofs.lemmas.Bool.{eqb-false}
 use Rattle.meaning.specs.Tables.{at}

@@ -1,12 +1,8 @@
 -- The weighted fit: an accepted fit, as the box that is returned, times the weight is the target at every grid point, modulo 2^w.
 -- A sum over the columns is a sum over the cells of the box; reducing a coefficient modulo its bound changes no value; and the elimination's answer
 -- satisfies every row.
-use Rattle.std.specs.Prelude.{◌≡◌, Bool, true, length, get_or}
-use Rattle.std.proofs.Common.{sym, ◌∙◌, mod-lt, le_refl, mul_assoc, lt-ltb, le-ltb, pow_pos}
-use Rattle.std.proofs.Math.Path.{ap}
-use Rattle.std.proofs.Math.Bool.{cond}
-use Prim.Native.Nat.{ℕ, ◌*◌, ◌%◌, ◌^◌, ◌<◌}
-use mathlib.Core.List.{List, []}
+use Rattle.std.specs.Prelude.{◌≡◌, Bool, true, length, get_or, cond, ℕ, ◌*◌, ◌%◌, ◌^◌, ◌<◌, List, []}
+use Rattle.std.proofs.Common.{sym, ◌∙◌, mod-lt, le_refl, mul_assoc, lt-ltb, le-ltb, pow_pos, ap}
 use Rattle.meaning.specs.Tables.{tabulate, at}
 use Rattle.meaning.specs.Sums.{sum}
 use Rattle.meaning.specs.Factorials.{falling}

@@ -1,11 +1,8 @@
 -- Recovery of tables modulo m, for any family of cells: the answer is bounded, agrees where every difference passes, and is the only bounded box
 -- that agrees; whatever box agrees makes every difference pass; two that agree have the same values everywhere; sums.
 -- Everything but the search for a point where another box disagrees follows from `Fits`. Sums follow from agreement alone.
-use Rattle.std.specs.Prelude.{◌≡◌}
-use Rattle.std.proofs.Math.Path.{sym, ap}
-use Rattle.std.proofs.Common.{◌∙◌, mod-lt, mod-eq_of_lt}
-use Prim.Native.Nat.{ℕ, ◌+◌, ◌%◌, ◌<◌}
-use mathlib.Core.List.{List}
+use Rattle.std.specs.Prelude.{◌≡◌, ℕ, ◌+◌, ◌%◌, ◌<◌, List}
+use Rattle.std.proofs.Common.{sym, ap, ◌∙◌, mod-lt, mod-eq_of_lt}
 use Rattle.std.proofs.Math.Nat.{mod-mod}
 use Rattle.std.proofs.Math.Decide.{ℕ_discrete}
 use Rattle.meaning.specs.Tables.{tabulate, at}

@@ -1,13 +1,10 @@
 -- Residues of whole numbers. A whole number z is the difference of two natural numbers, its part above zero and its part below zero; r stands
 -- for z modulo m where r and the part below make the part above (`Stands`). What stands for z is unique modulo m, and stands for sums and
 -- products as it should: from that follow all laws of the residue.
-use Rattle.std.specs.Prelude.{◌≡◌, refl, Bool, true, false, not, cond, T, ltb, length, drop, ℤ, negsuc, neg_ℤ, ◌+ℤ◌, ◌-ℤ◌, ◌*ℤ◌}
-use Rattle.std.proofs.Common.{sym, mul-pos, add-zero, pow-suc, arith, ltb→lt, nltb→le}
-use Rattle.std.proofs.Math.Path.{ap}
-use Prim.Native.Nat.{ℕ, zero, suc, pred, ◌+◌, ◌-◌, ◌*◌, ◌%◌, ◌^◌, ◌≤◌, ◌<◌}
-use Rattle.std.proofs.Math.Nat.{mod-lt, suc-pred-eq_of_pos, pow-zero, zero-mod}
-use mathlib.Core.List.{List, [], ◌∷◌, map}
-use Rattle.std.proofs.Math.IntN.{pos, sub_ℕ, -ℤ-+ℤ_cancel}
+use Rattle.std.specs.Prelude.{◌≡◌, refl, Bool, true, false, not, cond, T, ltb, length, drop, ℤ, negsuc, neg_ℤ, ◌+ℤ◌, ◌-ℤ◌, ◌*ℤ◌, ℕ, zero, suc, pred, ◌+◌, ◌-◌, ◌*◌, ◌%◌, ◌^◌, ◌≤◌, ◌<◌, List, [], ◌∷◌, map, pos}
+use Rattle.std.proofs.Common.{sym, mul-pos, add-zero, pow-suc, arith, ltb→lt, nltb→le, ap, mod-lt}
+use Rattle.std.proofs.Math.Nat.{suc-pred-eq_of_pos, pow-zero, zero-mod}
+use Rattle.std.proofs.Math.IntN.{sub_ℕ, -ℤ-+ℤ_cancel}
 use Rattle.meaning.specs.Tables.{at}
 use Rattle.meaning.specs.Sums.{sum}
 use Rattle.meaning.specs.Factorials.{falling}
@@ -17,8 +14,7 @@ use Rattle.meaning.specs.Integers.{residue, fallingℤ, powerℤ}
 use Rattle.meaning.specs.Polynomials.{productℤ, sumℤ, box_at}
 use Rattle.theory.specs.Sums.{sum_cong}
 use Rattle.theory.specs.Binomials.{mul-falling}
-use Rattle.theory.specs.Congruence.{Cong, cong_of_eq, cong_sym, cong_trans, cong_add, cong_add-left, cong_add_right, cong_mul, cong_mul-left}
-use Rattle.theory.specs.Congruence.{cong_mul_right, cong_add_cancel, cong_add_cancel_cong, mod-cong, eq_of_cong, of_multiples, cong_of_mul}
+use Rattle.theory.specs.Congruence.{Cong, cong_of_eq, cong_sym, cong_trans, cong_add, cong_add-left, cong_add_right, cong_mul, cong_mul-left, cong_mul_right, cong_add_cancel, cong_add_cancel_cong, mod-cong, eq_of_cong, of_multiples, cong_of_mul}
 
 -- z is its part above zero less its part below
 abbrev above : ℤ → ℕ

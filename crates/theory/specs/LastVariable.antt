@@ -1,8 +1,7 @@
 -- Boxes by their last variable. The cells with last exponent e lie one after the other, from e times the size of the box of the other variables on, and in
 -- the order of that box: so a table of the box is a row of tables of the smaller box, and a walk over the cells is a recursion over the last variable.
 use Rattle.std.specs.Prelude.{◌≡◌, refl, List, [], ◌∷◌, ◌++◌, ℕ, zero, suc, ◌+◌, ◌*◌, ◌-◌, ◌/◌, ◌%◌, ◌^◌, ◌≤◌, ◌<◌, length, take, drop}
-use Rattle.std.proofs.Common.{sym, ◌∙◌, ap₂, suc-le-suc, le_of_suc-le-suc, zero-lt-suc, mod-lt, mod-eq_of_lt, mul_comm, mul_assoc, mul_left_comm, div-add-mod', div-lt_iff_lt-mul, add-one, arith, take-suc, length-take-le, get_or-drop}
-use Rattle.std.proofs.Math.Path.{ap}
+use Rattle.std.proofs.Common.{sym, ◌∙◌, ap₂, suc-le-suc, le_of_suc-le-suc, zero-lt-suc, mod-lt, mod-eq_of_lt, mul_comm, mul_assoc, mul_left_comm, div-add-mod', div-lt_iff_lt-mul, add-one, arith, take-suc, length-take-le, get_or-drop, ap}
 use Rattle.std.proofs.Math.Nat.{sub-add-eq, div-eq_of_eq-mul_left}
 use Rattle.std.proofs.Math.Arith.{digits_div, digits_mod, lt-one}
 use Rattle.std.proofs.Math.Seq.{take-length}

@@ -4,9 +4,7 @@
 -- the offsets; moving goes with sums. That the moved values are those of some box is the move of a line, done along each variable (`shifted`), modulo
 -- any power 2^l with w at most l: so what the code leaves modulo 2^64, reduced, is the moved form.
 use Rattle.std.specs.Prelude.{◌≡◌, ℕ, suc, ◌+◌, ◌*◌, ◌%◌, ◌^◌, ◌≤◌, ◌<◌, List, map, T, ℤ, pos, length, get_or}
-use Rattle.std.proofs.Math.Path.{sym}
-use Rattle.std.proofs.Common.{ap, ap₂, ◌∙◌, le_refl, add-zero, arith, pow_pos}
-use Rattle.std.proofs.Math.Nat.{mod-eq_of_lt}
+use Rattle.std.proofs.Common.{sym, ap, ap₂, ◌∙◌, le_refl, add-zero, arith, pow_pos, mod-eq_of_lt}
 use Rattle.meaning.specs.Tables.{tabulate, at}
 use Rattle.meaning.specs.Sums.{sum}
 use Rattle.meaning.specs.Factorials.{falling}
@@ -24,8 +22,7 @@ use Rattle.theory.specs.Values.{entry, entry-tabulate, value-lt, value_cong_poin
 use Rattle.theory.specs.Widths.{width_cell}
 use Rattle.theory.specs.GridRecovery.{box_total_bounded}
 use Rattle.theory.specs.Words.{cong_of_pow}
-use Rattle.theory.specs.DemandThree.{answer_normal, answer_agrees, accepts_of_agrees, normal_unique, normal_eq_of_values, same_values, value-total}
-use Rattle.theory.specs.DemandThree.{box_reduced_normal, value-box_reduced}
+use Rattle.theory.specs.DemandThree.{answer_normal, answer_agrees, accepts_of_agrees, normal_unique, normal_eq_of_values, same_values, value-total, box_reduced_normal, value-box_reduced}
 use Rattle.theory.specs.WholeNumbers.{answer-residue, residue-coordinates}
 use Rattle.theory.specs.AlongEach.{along_each, eval-along_each}
 use Rattle.theory.specs.MovedLines.{moved_line, sum-moved_line}

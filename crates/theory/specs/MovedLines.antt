@@ -10,8 +10,7 @@ use Rattle.std.proofs.Math.Arith.{lt_of_le-ne}
 use Rattle.meaning.specs.Sums.{sum}
 use Rattle.meaning.specs.Factorials.{falling}
 use Rattle.meaning.specs.Differences.{minus}
-use Rattle.theory.specs.Congruence.{Cong, cong_of_eq, cong_sym, cong_trans, cong_add, cong_add-left, cong_add_right, cong_mul, cong_mul-left}
-use Rattle.theory.specs.Congruence.{cong_mul_right, cong_add_cancel, of_multiples, mod-cong, minus-add}
+use Rattle.theory.specs.Congruence.{Cong, cong_of_eq, cong_sym, cong_trans, cong_add, cong_add-left, cong_add_right, cong_mul, cong_mul-left, cong_mul_right, cong_add_cancel, of_multiples, mod-cong, minus-add}
 use Rattle.theory.specs.Sums.{sum_eq, sum_cong, sum_linear, sum-mul-left, sum_one}
 use Rattle.theory.specs.Binomials.{choose, choose-zero, choose_self, mul-choose, falling-zero, falling-suc, mul-falling, falling_cong}
 use Rattle.theory.specs.AlongEach.{Line}

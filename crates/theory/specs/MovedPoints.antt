@@ -1,9 +1,7 @@
 -- Moved points: a point with an offset added to each coordinate, of natural and of whole numbers, and its residues.
-use Rattle.std.specs.Prelude.{◌≡◌, refl, ℤ, pos, get_or}
+use Rattle.std.specs.Prelude.{◌≡◌, refl, ℤ, pos, get_or, ℕ, zero, suc, ◌+◌, ◌<◌, List, [], ◌∷◌, map}
 use Rattle.std.proofs.Common.{sym, zero-add, add-zero}
-use Prim.Native.Nat.{ℕ, zero, suc, ◌+◌, ◌<◌}
 use Rattle.std.proofs.Math.Nat.{zero-mod}
-use mathlib.Core.List.{List, [], ◌∷◌, map}
 use Rattle.meaning.specs.Tables.{at}
 use Rattle.meaning.specs.Integers.{residue}
 use Rattle.meaning.specs.Datum.{moved_point, moved_pointℤ}

@@ -1,10 +1,9 @@
 -- Newton's series in one variable: its expansion, that it is the only one, and what differences depend on.
 -- A series has a fixed number of terms, and its step from x to x + 1 is Pascal's rule (`series-suc`), exactly. Both the expansion and its
 -- uniqueness are inductions by that step for all functions at once, with the first difference in place of the function.
-use Rattle.std.specs.Prelude.{◌≡◌, refl}
-use Rattle.std.proofs.Common.{sym, ◌∙◌, not-suc-le-zero, le_of_suc-le-suc, arith}
-use Prim.Native.Nat.{ℕ, zero, suc, ◌+◌, ◌*◌, ◌≤◌, ◌<◌, zero-le, suc-le-suc}
-use Rattle.std.proofs.Math.Nat.{le_step, add_comm}
+use Rattle.std.specs.Prelude.{◌≡◌, refl, ℕ, zero, suc, ◌+◌, ◌*◌, ◌≤◌, ◌<◌}
+use Rattle.std.proofs.Common.{sym, ◌∙◌, not-suc-le-zero, le_of_suc-le-suc, arith, zero-le, suc-le-suc, add_comm}
+use Rattle.std.proofs.Math.Nat.{le_step}
 use Rattle.meaning.specs.Sums.{sum}
 use Rattle.meaning.specs.Differences.{diff, diffs}
 use Rattle.theory.specs.Congruence.{Cong, cong_of_eq, cong_sym, cong_trans, cong_add, cong_add_cancel_cong, minus-add}

@@ -4,15 +4,13 @@
 -- it adds (t - s j) times the new coefficient j + 1 to coefficient j, from the highest index down (`passed`). Pass k does this to the coefficients from
 -- k on, and after all passes (`rewritten`) the nodes are t 0, t 1, ... No pass changes the value. Only the factors y - s i enter, as numbers u i, so that
 -- the algebra is one exchange: with e + v for u, e b + v (b + u q) is u (b + v q). A number δ k i stands for t k - s i where δ k i + s i is t k modulo m.
-use Rattle.std.specs.Prelude.{◌≡◌, refl}
+use Rattle.std.specs.Prelude.{◌≡◌, refl, ℕ, zero, suc, ◌+◌, ◌*◌, ◌%◌, ◌^◌, ◌≤◌, ◌<◌}
 use Rattle.std.proofs.Common.{sym, ap, ◌∙◌, not-suc-le-zero, le_of_suc-le-suc, le_refl, one-mul, pow-suc, arith}
-use Prim.Native.Nat.{ℕ, zero, suc, ◌+◌, ◌*◌, ◌%◌, ◌^◌, ◌≤◌, ◌<◌}
 use Rattle.std.proofs.Math.Nat.{pow-zero}
 use Rattle.meaning.specs.Sums.{sum}
 use Rattle.meaning.specs.Factorials.{falling}
 use Rattle.meaning.specs.Differences.{minus}
-use Rattle.theory.specs.Congruence.{Cong, cong_of_eq, cong_refl, cong_sym, cong_trans, cong_add-left, cong_add_right, cong_mul-left, cong_mul_right}
-use Rattle.theory.specs.Congruence.{cong_add_cancel, minus-add}
+use Rattle.theory.specs.Congruence.{Cong, cong_of_eq, cong_refl, cong_sym, cong_trans, cong_add-left, cong_add_right, cong_mul-left, cong_mul_right, cong_add_cancel, minus-add}
 use Rattle.theory.specs.Binomials.{mul-falling}
 use Rattle.theory.specs.AlongEach.{Line}
 

@@ -1,11 +1,8 @@
 -- Grids that leave something open: where d + 1 is below `degree_cap_of`, the falling factorial of one variable to d + 1 is a polynomial that is 0 at every grid
 -- point, and at d + 1 it is the factorial of d + 1, which is not 0 modulo 2^w.
-use Rattle.std.specs.Prelude.{◌≡◌, refl, pos, ◌*ℤ◌, drop}
-use Rattle.std.proofs.Common.{sym, ap, ap₂, ◌∙◌, le_refl, zero-lt-suc, le_of_suc-le-suc, not-suc-le-zero, one-mul, mul-one, zero-add, arith, pow_pos}
-use Prim.Native.Nat.{ℕ, zero, suc, ◌+◌, ◌*◌, ◌/◌, ◌^◌, ◌<◌}
-use mathlib.Core.List.{List, [], ◌∷◌, ◌++◌, map}
-use Rattle.std.proofs.Math.Nat.{mul_comm, pow-zero, zero-div}
-use Rattle.std.proofs.Math.IntN.{ℤ}
+use Rattle.std.specs.Prelude.{◌≡◌, refl, pos, ◌*ℤ◌, drop, ℕ, zero, suc, ◌+◌, ◌*◌, ◌/◌, ◌^◌, ◌<◌, List, [], ◌∷◌, ◌++◌, map, ℤ}
+use Rattle.std.proofs.Common.{sym, ap, ap₂, ◌∙◌, le_refl, zero-lt-suc, le_of_suc-le-suc, not-suc-le-zero, one-mul, mul-one, zero-add, arith, pow_pos, mul_comm}
+use Rattle.std.proofs.Math.Nat.{pow-zero, zero-div}
 use Rattle.meaning.specs.Tables.{at}
 use Rattle.meaning.specs.Factorials.{factorial, falling, twos, degree_cap_of}
 use Rattle.meaning.specs.Values.{product}

@@ -1,10 +1,7 @@
 -- Whole-number polynomials and boxes of power coefficients modulo m: the terms of a polynomial gathered cell by cell, and the polynomial with a
 -- term for each cell. At every whole-number point the residue of the polynomial is the evaluation of its box by powers at the residues.
-use Rattle.std.specs.Prelude.{◌≡◌, List, [], ◌∷◌, map, ℤ, ◌*ℤ◌, length, drop}
-use Rattle.std.proofs.Common.{sym, ◌∙◌, mul-zero, mul_comm, arith}
-use Rattle.std.proofs.Math.Path.{ap}
-use Prim.Native.Nat.{ℕ, zero, suc, ◌+◌, ◌*◌, ◌^◌, ◌<◌, suc-le-suc}
-use Rattle.std.proofs.Math.IntN.{pos}
+use Rattle.std.specs.Prelude.{◌≡◌, List, [], ◌∷◌, map, ℤ, ◌*ℤ◌, length, drop, ℕ, zero, suc, ◌+◌, ◌*◌, ◌^◌, ◌<◌, pos}
+use Rattle.std.proofs.Common.{sym, ◌∙◌, mul-zero, mul_comm, arith, ap, suc-le-suc}
 use Rattle.meaning.specs.Tables.{at}
 use Rattle.meaning.specs.Sums.{sum}
 use Rattle.meaning.specs.Boxes.{cells, digits, Within, none, next}

@@ -1,14 +1,9 @@
 -- The test of sameness is right: for forms with distinct support indices below the total and a degree for each it says yes exactly when the forms are the
 -- same, normal or not, with supports in any order and any degrees. The test is `Matches` both ways (the bound of a cell is that of its exponents over all variables), and SpreadBoxes says that
 -- this is equality of the values at all natural points, which stand for the whole-number points by their residues.
-use Rattle.std.specs.Prelude.{◌≡◌, ◌↔◌, true, T, ℤ, pos, length, get_or}
-use Rattle.std.proofs.Math.Path.{refl, ap, ap₂, subst}
-use Rattle.std.proofs.Common.{sym, ◌∙◌, eq-eqb, pow_pos}
-use Rattle.std.proofs.Math.Bool.{◌&&◌}
-use Prim.Native.Nat.{ℕ, zero, suc, ◌-◌, ◌%◌, ◌^◌}
-use mathlib.Core.List.{List, [], ◌∷◌, map}
+use Rattle.std.specs.Prelude.{◌≡◌, ◌↔◌, true, T, ℤ, pos, length, get_or, refl, ◌&&◌, ℕ, zero, suc, ◌-◌, ◌%◌, ◌^◌, List, [], ◌∷◌, map, eqb}
+use Rattle.std.proofs.Common.{ap, ap₂, subst, sym, ◌∙◌, eq-eqb, pow_pos, eqb→eq}
 use Rattle.std.proofs.Math.Nat.{zero-mod}
-use Rattle.std.proofs.Math.Dec.{eqb, eqb→eq}
 use Rattle.std.proofs.lemmas.List.{length-map}
 use Rattle.std.proofs.Math.ListN.{get_or-map}
 use Rattle.meaning.specs.Tables.{at}

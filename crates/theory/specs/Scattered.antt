@@ -2,16 +2,11 @@
 -- induction over the places by one law of `set`: a 0 at a new place is replaced by e.
 -- The lists within a scattered degree list are the lists scattered from those within the degree list (`scattered-within`, `picked-within`,
 -- `scattered-picked`, `picked-scattered`), a product over all variables is the product over the places, and the twos in the factorials are the same.
-use Rattle.std.specs.Prelude.{◌≡◌, ◌↔◌, T, leb, length, drop}
-use Rattle.std.proofs.Math.Path.{refl, ap, ap₂}
-use Rattle.std.proofs.Common.{sym, subst, ◌∙◌, zero-lt-suc, not-suc-le-zero, le_of_suc-le-suc, suc-ne-zero, le_refl, leb→le, le→leb, length-set, get_or-set_same, get_or-set_other}
-use Prim.Native.Nat.{ℕ, zero, suc, ◌+◌, ◌*◌, ◌≤◌, ◌<◌, zero-le, suc-le-suc}
-use mathlib.Core.List.{List, [], ◌∷◌}
+use Rattle.std.specs.Prelude.{◌≡◌, ◌↔◌, T, leb, length, drop, refl, ℕ, zero, suc, ◌+◌, ◌*◌, ◌≤◌, ◌<◌, List, [], ◌∷◌, set, replicate}
+use Rattle.std.proofs.Common.{ap, ap₂, sym, subst, ◌∙◌, zero-lt-suc, not-suc-le-zero, le_of_suc-le-suc, suc-ne-zero, le_refl, leb→le, le→leb, length-set, get_or-set_same, get_or-set_other, zero-le, suc-le-suc, arith, set-set}
 use Rattle.std.proofs.Math.Nat.{suc_inj}
-use native.Mathlib.Omega.{arith}
-use Rattle.std.proofs.Math.ListN.{set, replicate}
 use Rattle.std.proofs.lemmas.List.{length-replicate}
-use Rattle.std.proofs.Math.Seq.{set-get_or, set-set}
+use Rattle.std.proofs.Math.Seq.{set-get_or}
 use Rattle.meaning.specs.Tables.{at}
 use Rattle.meaning.specs.Factorials.{factorial, twos, twos_of}
 use Rattle.meaning.specs.Boxes.{Within, none, next}

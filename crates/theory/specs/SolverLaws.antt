@@ -1,9 +1,6 @@
 -- The bare solver: an accepted answer satisfies every row modulo 2^w, in the words of the lent tables.
-use Rattle.std.specs.Prelude.{◌≡◌, refl, Bool, true, false, List, T}
-use Rattle.std.proofs.Math.Path.{ap}
-use Rattle.std.proofs.Common.{◌∙◌, mod-lt, le_refl, suc-ne-zero, pow_pos, lt-ltb, le-ltb}
-use Rattle.std.proofs.Math.Bool.{cond}
-use Prim.Native.Nat.{ℕ, suc, ◌+◌, ◌*◌, ◌%◌, ◌^◌, ◌<◌}
+use Rattle.std.specs.Prelude.{◌≡◌, refl, Bool, true, false, List, T, cond, ℕ, suc, ◌+◌, ◌*◌, ◌%◌, ◌^◌, ◌<◌}
+use Rattle.std.proofs.Common.{ap, ◌∙◌, mod-lt, le_refl, suc-ne-zero, pow_pos, lt-ltb, le-ltb}
 use Rattle.meaning.specs.Tables.{tabulate, at}
 use Rattle.meaning.specs.Sums.{sum}
 use Rattle.theory.specs.AcceptedCalls.{first-zero}

@@ -2,12 +2,9 @@
 -- the exponent list of this cell" times the coefficient (`coefficient_at-eq-sum`). So in any box D that has room for all its exponent lists, evaluating
 -- `coefficient_at` at a point gives the value of the box at the coordinates of its support (`eval-spread`): no variables change places, and only the
 -- proof lays D out. Two boxes are spread into one D, and there recovery's uniqueness says that equal values are equal coefficients modulo their bounds.
-use Rattle.std.specs.Prelude.{◌≡◌, Bool, ℕ, suc, ◌+◌, ◌*◌, ◌%◌, ◌<◌, List, [], ◌∷◌, length}
-use Rattle.std.proofs.Math.Path.{refl, ap}
-use Rattle.std.proofs.Common.{sym, subst, ◌∙◌, suc-ne-zero, le_trans, le-add_left, le-add_right, arith}
-use Rattle.std.proofs.Math.Bool.{true, false, cond}
+use Rattle.std.specs.Prelude.{◌≡◌, Bool, ℕ, suc, ◌+◌, ◌*◌, ◌%◌, ◌<◌, List, [], ◌∷◌, length, refl, true, false, cond, T}
+use Rattle.std.proofs.Common.{ap, sym, subst, ◌∙◌, suc-ne-zero, le_trans, le-add_left, le-add_right, arith}
 use Rattle.std.proofs.Math.Nat.{suc_inj}
-use Rattle.std.proofs.Math.Dec.{T}
 use Rattle.meaning.specs.Tables.{at}
 use Rattle.meaning.specs.Sums.{sum}
 use Rattle.meaning.specs.Factorials.{falling}

@@ -1,12 +1,9 @@
 -- Stirling numbers: powers in falling factorials, falling factorials in powers modulo m, and that the two kinds undo one another.
 -- Every law is an induction by the recurrences. The range of a sum goes up to a degree d that is fixed during the induction, so that a shift of
 -- the range only has to show that one term vanishes.
-use Rattle.std.specs.Prelude.{◌≡◌, ◌⊎◌, pos, ◌-ℤ◌, ◌*ℤ◌}
-use Rattle.std.proofs.Math.Path.{refl, ap}
-use Rattle.std.proofs.Common.{sym, ap₂, ◌∙◌, inl, inr, not-suc-le-zero, le_of_suc-le-suc, le_refl, le_of_lt, zero-lt-suc, pow-suc, mul_comm}
-use Prim.Native.Nat.{ℕ, zero, suc, ◌+◌, ◌*◌, ◌^◌, ◌≤◌, ◌<◌, suc-le-suc}
-use Rattle.std.proofs.Math.Nat.{zero-mod, mul-zero, zero-mul, pow-zero, pow-succ'}
-use native.Mathlib.Omega.{arith}
+use Rattle.std.specs.Prelude.{◌≡◌, ◌⊎◌, pos, ◌-ℤ◌, ◌*ℤ◌, refl, ℕ, zero, suc, ◌+◌, ◌*◌, ◌^◌, ◌≤◌, ◌<◌}
+use Rattle.std.proofs.Common.{ap, sym, ap₂, ◌∙◌, inl, inr, not-suc-le-zero, le_of_suc-le-suc, le_refl, le_of_lt, zero-lt-suc, pow-suc, mul_comm, suc-le-suc, mul-zero, zero-mul, arith}
+use Rattle.std.proofs.Math.Nat.{zero-mod, pow-zero, pow-succ'}
 use Rattle.meaning.specs.Sums.{sum}
 use Rattle.meaning.specs.Factorials.{falling}
 use Rattle.meaning.specs.Integers.{residue}

@@ -2,12 +2,8 @@
 -- and then the answer has at every whole-number point the residue of every such polynomial.
 -- A polynomial's terms are gathered and converted to falling factorials; a box is converted to powers and has a term for each cell. Both keep the
 -- residue at every whole-number point, so everything follows from recovery of boxes.
-use Rattle.std.specs.Prelude.{◌≡◌, ◌↔◌, T, ℤ, length}
-use Rattle.std.proofs.Math.Path.{sym}
-use Rattle.std.proofs.Common.{◌∙◌, pow_pos}
-use Prim.Native.Nat.{ℕ, zero, suc, ◌^◌, ◌<◌}
-use mathlib.Core.List.{List, [], ◌∷◌, map}
-use Rattle.std.proofs.Math.IntN.{pos}
+use Rattle.std.specs.Prelude.{◌≡◌, ◌↔◌, T, ℤ, length, ℕ, zero, suc, ◌^◌, ◌<◌, List, [], ◌∷◌, map, pos}
+use Rattle.std.proofs.Common.{sym, ◌∙◌, pow_pos}
 use Rattle.meaning.specs.Tables.{tabulate, at}
 use Rattle.meaning.specs.Factorials.{falling}
 use Rattle.meaning.specs.Boxes.{cells, digits, along}

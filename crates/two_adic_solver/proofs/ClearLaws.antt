@@ -1,7 +1,7 @@
 -- One row cleared: tables that show a state then show the one with the row cleared; and the places of rows in a flat matrix.
 use Rattle.std.proofs.Common.{◌≡◌, ℕ, suc, ◌+◌, ◌-◌, ◌*◌, ◌/◌, ◌%◌, ◌^◌, ◌<◌, ◌≤◌, Bool, true, false, cond, List, set, sym, ap, ◌∙◌, ap₂, le_refl, le_of_lt, mul-le-mul_right, suc-mul, lt_of_not-le, mul-zero, zero-mul, arith, length-set, get_or-set_other, get_or-set_same, eq-eqb, ne_eqb}
-use native.Mathlib.Decide.{dec_le}
-use lib.Arith.{digits_lt}
+use Rattle.std.proofs.Math.Decide.{dec_le}
+use Rattle.std.proofs.Math.Arith.{digits_lt}
 use Rattle.meaning.specs.Tables.{at}
 use Rattle.meaning.specs.Inverses.{inverse}
 use Rattle.meaning.specs.Differences.{minus}

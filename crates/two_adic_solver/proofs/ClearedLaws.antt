@@ -1,7 +1,7 @@
 -- The rows of a column cleared one after the other, by a part of the pivot row: tables that show a state then show the one in which the columns of that part
 -- are as after the column's step.
 use Rattle.std.proofs.Common.{◌≡◌, ℕ, ◌+◌, ◌-◌, ◌*◌, ◌/◌, ◌^◌, ◌<◌, ◌≤◌, Bool, true, false, cond, ltb, List, length, get_or, sym, refl, ap, ◌∙◌, ap₂, ⊎_elim, zero-le, le_trans, le_refl, lt_of_not-le, mul-zero, ne_of_lt, arith, le-ltb, lt-ltb}
-use native.Mathlib.Decide.{dec_le}
+use Rattle.std.proofs.Math.Decide.{dec_le}
 use Rattle.meaning.specs.Tables.{at}
 use Rattle.meaning.specs.Inverses.{inverse}
 use Rattle.meaning.specs.Differences.{minus}

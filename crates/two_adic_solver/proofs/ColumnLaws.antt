@@ -113,7 +113,6 @@ module _ (w rows cols c : ℕ) (mat : List ℕ) (used : List Bool) (p : ℕ) (e 
 -- the first c columns eliminated, whatever state the tables showed
 pub record Passed (w cols : ℕ) (mat₀ rhs₀ : List ℕ) (used₀ : List Bool) (piv₀ mat rhs : List ℕ) (used : List Bool) (piv : List ℕ) (c : ℕ) : Type 0 where
   pub same_right : length rhs ≡ length rhs₀
-  pub same_used : length used ≡ length used₀
   pub same_pivots : length piv ≡ length piv₀
   pub within : c ≤ cols
   pub so_far : (s : State) → Shown w (length rhs₀) cols s 0 mat₀ rhs₀ used₀ piv₀
@@ -123,19 +122,18 @@ module _ (w cols : ℕ) (mat₀ rhs₀ : List ℕ) (used₀ : List Bool) (piv₀
   pub passed_start : Passed w cols mat₀ rhs₀ used₀ piv₀ mat₀ rhs₀ used₀ piv₀ 0
   unfolding forward
   passed_start =
-      record { same_right = refl; same_used = refl; same_pivots = refl; within = zero-le; so_far = λ s h. h }
+      record { same_right = refl; same_pivots = refl; within = zero-le; so_far = λ s h. h }
 
   pub passed-step : (mat rhs : List ℕ) (used : List Bool) (piv mat' rhs' : List ℕ) (used' : List Bool) (piv' : List ℕ) (c : ℕ)
       → Passed w cols mat₀ rhs₀ used₀ piv₀ mat rhs used piv c → c < cols
-      → length rhs' ≡ length rhs → length used' ≡ length used → length piv' ≡ length piv
+      → length rhs' ≡ length rhs → length piv' ≡ length piv
       → ((s : State) → Shown w (length rhs) cols s c mat rhs used piv
       → Shown w (length rhs) cols (step w (length rhs) s c) (c + 1) mat' rhs' used' piv')
       → Passed w cols mat₀ rhs₀ used₀ piv₀ mat' rhs' used' piv' (c + 1)
   unfolding forward
-  passed-step mat rhs used piv mat' rhs' used' piv' c r l er eu ep f =
+  passed-step mat rhs used piv mat' rhs' used' piv' c r l er ep f =
       record {
         same_right = er ∙ r.same_right;
-        same_used = eu ∙ r.same_used;
         same_pivots = ep ∙ r.same_pivots;
         within = omega arith;
         so_far =

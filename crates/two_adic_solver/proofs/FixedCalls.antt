@@ -1,5 +1,5 @@
 -- A call of the four by four solver: the shape of the arrays that it is given, and its number and answer from those of the system that fits.
-use Rattle.std.proofs.Common.{Bool, cond, ◌≡◌, ℕ, zero, suc, ◌*◌, ◌/◌, ◌<◌, true, false, ◌||◌, eqb, ltb, List, [], ◌∷◌, length, get_or, replicate, sym, refl, ap, ◌∙◌, le_of_suc-le-suc, not-suc-le-zero, w64}
+use Rattle.std.proofs.Common.{Bool, cond, ◌≡◌, ℕ, zero, suc, ◌*◌, ◌<◌, true, false, List, [], ◌∷◌, length, get_or, replicate, sym, refl, ap, ◌∙◌, le_of_suc-le-suc, not-suc-le-zero, w64, arith, ◌≤◌}
 use mir.Val.{Val}
 use denote.Shadow.{shadow}
 use denote.Laws.{Is}
@@ -43,9 +43,9 @@ module _ (w : ℕ) (m : List (List ℕ)) (r : List ℕ) where
     unfolding fixed_number fixed_answer
     fixed_solved fits n mat rhs x k =
         let l = joined_length s in
-        let q = fitting_call w 4 (joined m) r (replicate 4 0) fits
-        (ap (λ (n : ℕ). ltb 65536 n || ltb 65536 4) l) refl (ap (λ (n : ℕ). eqb (n / 4 * 4) n) l) (e ∙ sym (ap (◌/ 4) l)) refl
-        n mat rhs x (k.shows.matrix_length ∙ ap (◌* 4) e ∙ sym l) k in
+        let few : length (joined m) ≤ 65536 = omega (arith, l) in
+        let q = fitting_call w 4 (joined m) r (replicate 4 0) fits few (omega arith) (λ f. absurd (omega (arith, f)))
+        (omega (arith, l)) (omega (arith, l, e)) refl n mat rhs x (k.shows.matrix_length ∙ ap (◌* 4) e ∙ sym l) k in
         (q.0, q.3)
 
     -- a refusal comes with zeros

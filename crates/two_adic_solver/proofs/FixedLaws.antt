@@ -1,8 +1,9 @@
 -- A four by four matrix of rows, in the words of its rows one behind the other: one entry set, every entry reduced, a row less a multiple of another,
 -- and the sum of products along a row.
-use Rattle.std.proofs.Common.{◌≡◌, ℕ, zero, suc, ◌+◌, ◌-◌, ◌*◌, ◌%◌, ◌^◌, ◌<◌, ◌≤◌, ◌⊎◌, List, [], ◌∷◌, ◌++◌, length, get_or, set, sym, ap, ◌∙◌, subst, ap₂, ⊎_elim, suc-le-suc, le_refl, le_of_suc-le-suc, not-suc-le-zero, zero-lt-suc, suc-add, eq-or-lt_of_le, lt_of_not-le, ne_of_gt, zero-add, ne_of_lt, add-one, arith, length-set, get_or-set_other, get_or-set_same}
-use native.Mathlib.Decide.{dec_le}
-use lib.Seq.{set-append_left}
+use Rattle.std.proofs.Common.{◌≡◌, ℕ, zero, suc, ◌+◌, ◌-◌, ◌*◌, ◌%◌, ◌^◌, ◌<◌, ◌≤◌, ◌⊎◌, List, [], ◌∷◌, ◌++◌, length, get_or, set, sym, ap, ◌∙◌, subst, ap₂, ⊎_elim, suc-le-suc, le_refl, le_of_suc-le-suc, not-suc-le-zero, zero-lt-suc, eq-or-lt_of_le, lt_of_not-le, ne_of_gt, refl, ne_of_lt, add-one, arith, length-set, get_or-set_other, get_or-set_same}
+use Rattle.std.proofs.Math.Decide.{dec_le}
+use Rattle.std.proofs.Math.Nat.{add-sub_cancel_left}
+use Rattle.std.proofs.lemmas.List.{set-append_left, set-append_right}
 use Rattle.meaning.specs.Tables.{at, tabulate}
 use Rattle.meaning.specs.Differences.{minus}
 use Rattle.meaning.specs.Elimination.{joined}
@@ -16,11 +17,6 @@ use Rattle.two_adic_solver.proofs.RowLaws.{subtracted_step}
 
 -- ---- rows one behind the other
 
-set_append_right : (xs ys : List ℕ) (k v : ℕ) → set (xs ++ ys) (length xs + k) v ≡ xs ++ set ys k v
-set_append_right [] ys k v = ap (λ (n : ℕ). set ys n v) (zero-add k)
-set_append_right (x ∷ xs) ys k v =
-    ap (λ (n : ℕ). set (x ∷ (xs ++ ys)) n v) (suc-add (length xs) k) ∙ ap (x ∷◌) (set_append_right xs ys k v)
-
 -- rows of n entries each: the entry of row i and column c set
 joined-put : (n : ℕ) (rs : List (List ℕ)) → ((i : ℕ) → i < length rs → length (get_or rs i []) ≡ n)
     → (i c v : ℕ) → i < length rs → c < n → joined (set rs i (set (get_or rs i []) c v)) ≡ set (joined rs) (i * n + c) v
@@ -32,7 +28,8 @@ joined-put n (r ∷ rs) h zero c v p q =
 joined-put n (r ∷ rs) h (suc i) c v p q =
     let e : length r + (i * n + c) ≡ suc i * n + c = omega (arith, h 0 (zero-lt-suc (length rs))) in
     ap (r ++◌) (joined-put n rs (λ i p. h (suc i) (suc-le-suc p)) i c v (le_of_suc-le-suc p) q)
-    ∙ sym (set_append_right r (joined rs) (i * n + c) v)
+    ∙ sym (set-append_right r (joined rs) (length r) (length r + (i * n + c)) v refl (omega arith)
+    ∙ ap (λ (k : ℕ). r ++ set (joined rs) k v) (add-sub_cancel_left (length r) (i * n + c)))
     ∙ ap (λ (k : ℕ). set (r ++ joined rs) k v) e
 
 module _ {m : List (List ℕ)} (q : Square m) where

@@ -1,7 +1,7 @@
 -- A column cleared part after part of its pivot row, the last one first: tables that show a state then show the next one.
 use Rattle.std.proofs.Common.{◌≡◌, ℕ, suc, ◌+◌, ◌-◌, ◌*◌, ◌/◌, ◌^◌, ◌<◌, ◌≤◌, Bool, List, length, sym, refl, ap, ◌∙◌, subst, le_refl, lt_irrefl, lt_of_not-le, arith}
-use native.Mathlib.Nat.{zero-mod}
-use native.Mathlib.Decide.{dec_le}
+use Rattle.std.proofs.Math.Nat.{zero-mod}
+use Rattle.std.proofs.Math.Decide.{dec_le}
 use Rattle.meaning.specs.Tables.{at}
 use Rattle.meaning.specs.Factorials.{twos_of}
 use Rattle.meaning.specs.Inverses.{inverse}

@@ -1,17 +1,15 @@
 -- The rows of a flat matrix: the search for a pivot, one turn more, and a row less a multiple of another, number by number and as a part of a table.
-use Rattle.std.proofs.Common.{◌≡◌, Option, Some, None, IfSome, unwrap_or, lt-ltb, ℕ, zero, suc, ◌+◌, ◌-◌, ◌*◌, ◌%◌, ◌^◌, ◌<◌, ◌≤◌, min, Bool, true, false, cond, eqb, ◌⊎◌, List, ◌++◌, length, get_or, take, drop, set, sym, refl, ap, ◌∙◌, ⊎_elim, zero-le, le_trans, le_refl, le_of_suc-le-suc, le_of_lt, suc-add, eq-or-lt_of_le, ne_of_gt, zero-add, ne_of_lt, add-one, arith, length-set, length-take-le, get_or-set_other, get_or-take, get_or-set_same, pow_pos, le-ltb, eq-eqb}
-use native.Mathlib.Nat.{min-eq_left}
-use lib.Bits.{bit_and}
+use Rattle.std.proofs.Common.{◌≡◌, Option, Some, None, IfSome, unwrap_or, lt-ltb, ℕ, zero, suc, ◌+◌, ◌-◌, ◌*◌, ◌%◌, ◌^◌, ◌<◌, ◌≤◌, min, Bool, true, false, cond, eqb, ◌⊎◌, List, ◌++◌, length, get_or, take, drop, set, sym, refl, ap, ◌∙◌, ⊎_elim, zero-le, le_trans, le_refl, le_of_suc-le-suc, le_of_lt, suc-add, eq-or-lt_of_le, ne_of_gt, zero-add, ne_of_lt, add-one, arith, length-set, length-take-le, bit_and, get_or-set_other, get_or-take, get_or-set_same, pow_pos, le-ltb, eq-eqb}
+use Rattle.std.proofs.Math.Nat.{min-eq_left}
 use Rattle.meaning.specs.Factorials.{twos_of}
 use Rattle.theory.specs.Pivots.{Found, Missing, lowest_cases}
-use lib.ListN.{get_or-append}
-use lib.Seq.{length_front}
+use Rattle.std.proofs.Math.ListN.{get_or-append}
+use Rattle.std.proofs.Math.Seq.{length_front}
 use Rattle.meaning.specs.Tables.{at, tabulate}
 use Rattle.meaning.specs.Differences.{minus}
 use Rattle.meaning.specs.Elimination.{Lowest, lowest}
-use Rattle.theory.specs.Congruence.{cong_of_eq, mod-cong, cong_mul}
+use Rattle.theory.specs.Congruence.{cong_of_eq, mod-cong, cong_mul, minus_cong}
 use Rattle.theory.specs.Words.{minus_masked, cong_of_pow}
-use Rattle.theory.specs.Congruence.{minus_cong}
 use Rattle.theory.specs.Tables.{length-tabulate, at-tabulate}
 use Rattle.theory.specs.Parts.{part, put, length_part, at_part, length-put, at-put-before, at-put-within, at-put-after}
 use Rattle.two_adic_solver.specs.Rows.{Subtracted, height_of}
@@ -45,64 +43,67 @@ lowest-odd none w h n (suc k) e =
     let b = lowest-odd none w h n k e in
     ap (lowest none w h) (suc-add k n) ∙ lowest-pass none w h (k + n) (rw (ap (λ (l : Lowest). l.twos) b ∙ e) zero-le) ∙ b
 
-module _ (w rows : ℕ) (h : ℕ → ℕ) where
-  pub searched_start : Searched w rows h None w 0
-  unfolding lowest
-  searched_start = record { inside = tt; row_eq = refl; least_eq = refl }
+pub searched_start : (w rows : ℕ) (h : ℕ → ℕ) (least : ℕ) → least ≡ w → Searched w rows h None least 0
+unfolding lowest
+searched_start w rows h least e = record { inside = tt; row_eq = refl; least_eq = e }
 
-  module _ (found : Option ℕ) (least i : ℕ) (s : Searched w rows h found least i) where
-    -- a row that is not lower is passed over, as is a used one, which has the greatest height
-    pub searched_pass : least ≤ h i → Searched w rows h found least (i + 1)
-    searched_pass l =
-        let e : lowest rows w h (i + 1) ≡ lowest rows w h i = ap (lowest rows w h) (add-one i) ∙ lowest-pass rows w h i (rw s.least_eq at l) in
-        record { inside = s.inside; row_eq = rw e s.row_eq; least_eq = rw e s.least_eq }
+module _ {w rows : ℕ} {h : ℕ → ℕ} {found : Option ℕ} {least i : ℕ} (s : Searched w rows h found least i) where
+  -- a row that is not lower is passed over
+  passed : least ≤ h i → Searched w rows h found least (i + 1)
+  passed l =
+      let e : lowest rows w h (i + 1) ≡ lowest rows w h i = ap (lowest rows w h) (add-one i) ∙ lowest-pass rows w h i (rw s.least_eq at l) in
+      record { inside = s.inside; row_eq = rw e s.row_eq; least_eq = rw e s.least_eq }
 
-    pub searched_used : h i ≡ w → Searched w rows h found least (i + 1)
-    searched_used e = searched_pass (rw (e, s.least_eq) (lowest-le rows w h i))
+  lower : (t : ℕ) → h i ≡ t → i < rows → t < least → Searched w rows h (Some i) t (i + 1)
+  lower t q r l =
+      let e : lowest rows w h (i + 1) ≡ record { row = i; twos = h i } =
+      ap (lowest rows w h) (add-one i) ∙ lowest_take rows w h i (rw (← q, s.least_eq) at l) in
+      record { inside = r; row_eq = rw e refl; least_eq = rw e (sym q) }
 
-    pub searched_lower : i < rows → h i < least → Searched w rows h (Some i) (h i) (i + 1)
-    searched_lower r l =
-        let e : lowest rows w h (i + 1) ≡ record { row = i; twos = h i } =
-        ap (lowest rows w h) (add-one i) ∙ lowest_take rows w h i (rw s.least_eq at l) in
-        record { inside = r; row_eq = rw e refl; least_eq = rw e refl }
+  -- the search may end at an odd entry
+  pub searched_odd : least ≡ 0 → i ≤ rows → unwrap_or found rows ≡ (lowest rows w h rows).row
+  searched_odd e within =
+      let whole : rows - i + i ≡ rows = omega arith in
+      s.row_eq
+      ∙ sym (ap (λ (l : Lowest). l.row) (lowest-odd rows w h i (rows - i) (sym s.least_eq ∙ e)))
+      ∙ ap (λ (n : ℕ). (lowest rows w h n).row) whole
 
-    -- the search may end at an odd entry
-    pub searched_odd : least ≡ 0 → i ≤ rows → unwrap_or found rows ≡ (lowest rows w h rows).row
-    searched_odd e within =
-        let whole : rows - i + i ≡ rows = omega arith in
-        s.row_eq
-        ∙ sym (ap (λ (l : Lowest). l.row) (lowest-odd rows w h i (rows - i) (sym s.least_eq ∙ e)))
-        ∙ ap (λ (n : ℕ). (lowest rows w h n).row) whole
+height : (w cols c i : ℕ) (mat : List ℕ) (used : List Bool) (b : Bool) → get_or used i false ≡ b
+    → height_of w cols mat used c i ≡ cond b w (twos_of w (at mat (i * cols + c)))
+unfolding height_of
+height w cols c i mat used b e = ap (λ (b : Bool). cond b w (twos_of w (at mat (i * cols + c)))) e
 
--- a row's height, by its mark
-module _ (w cols c i : ℕ) (mat : List ℕ) (used : List Bool) where
-  pub height_used : get_or used i false ≡ true → height_of w cols mat used c i ≡ w
-  unfolding height_of
-  height_used e = ap (λ (b : Bool). cond b w (twos_of w (at mat (i * cols + c)))) e
+module _ (w rows cols c : ℕ) (mat : List ℕ) (used : List Bool) {found : Option ℕ} {least i : ℕ}
+    (s : Searched w rows (height_of w cols mat used c) found least i) where
+  -- a used row has the greatest height
+  pub searched_used : get_or used i false ≡ true → Searched w rows (height_of w cols mat used c) found least (i + 1)
+  searched_used e = passed s (rw (height w cols c i mat used true e, s.least_eq) (lowest-le rows w (height_of w cols mat used c) i))
 
-  pub height_free : get_or used i false ≡ false → height_of w cols mat used c i ≡ twos_of w (at mat (i * cols + c))
-  unfolding height_of
-  height_free e = ap (λ (b : Bool). cond b w (twos_of w (at mat (i * cols + c)))) e
+  -- another as many as its entry has twos
+  module _ (free : get_or used i false ≡ false) {t : ℕ} (e : t ≡ twos_of w (at mat (i * cols + c))) where
+    pub searched_pass : least ≤ t → Searched w rows (height_of w cols mat used c) found least (i + 1)
+    searched_pass l = passed s (rw (height w cols c i mat used false free, ← e) l)
+
+    pub searched_lower : i < rows → t < least → Searched w rows (height_of w cols mat used c) (Some i) t (i + 1)
+    searched_lower = lower s t (height w cols c i mat used false free ∙ sym e)
 
 -- ---- a number less a multiple
 
-pub less_masked_lem : (a b w mask : ℕ) → w ≤ 64 → mask ≡ 2 ^ w - 1 → bit_and (minus (2 ^ 64) a (b % 2 ^ 64)) mask ≡ minus (2 ^ w) a b
-less_masked_lem a b w mask h e =
-    let m : min w 64 ≡ w = min-eq_left h in
-    ap (bit_and (minus (2 ^ 64) a (b % 2 ^ 64))) (e ∙ ap (λ (k : ℕ). 2 ^ k - 1) (sym m))
-    ∙ minus_masked a (b % 2 ^ 64) w
-    ∙ ap (λ (k : ℕ). minus (2 ^ k) a (b % 2 ^ 64)) m
-    ∙ minus_cong (pow_pos w) (cong_of_eq (2 ^ w) refl) (cong_of_pow h (mod-cong (2 ^ 64) b))
+pub minus_word : (w a b : ℕ) → w ≤ 64 → minus (2 ^ w) a (b % 2 ^ 64) ≡ minus (2 ^ w) a b
+minus_word w a b h = minus_cong (pow_pos w) (cong_of_eq (2 ^ w) refl) (cong_of_pow h (mod-cong (2 ^ 64) b))
 
--- to 32 bits the low halves of both factors have the product
-pub less-low : (a q b w mask : ℕ) → w ≤ 32 → mask ≡ 2 ^ w - 1
-    → bit_and (minus (2 ^ 64) a (q % 4294967296 * (b % 4294967296))) mask ≡ minus (2 ^ w) a (q * b)
-less-low a q b w mask h e =
-    let m : min w 64 ≡ w = min-eq_left (le_trans h (omega arith)) in
-    ap (bit_and (minus (2 ^ 64) a (q % 4294967296 * (b % 4294967296)))) (e ∙ ap (λ (k : ℕ). 2 ^ k - 1) (sym m))
-    ∙ minus_masked a (q % 4294967296 * (b % 4294967296)) w
-    ∙ ap (λ (k : ℕ). minus (2 ^ k) a (q % 4294967296 * (b % 4294967296))) m
-    ∙ minus_cong (pow_pos w) (cong_of_eq (2 ^ w) refl) (cong_of_pow h (cong_mul (mod-cong (2 ^ 32) q) (mod-cong (2 ^ 32) b)))
+module _ (a w mask : ℕ) (e : mask ≡ 2 ^ min w 64 - 1) where
+  masked : (b : ℕ) → w ≤ 64 → bit_and (minus (2 ^ 64) a b) mask ≡ minus (2 ^ w) a b
+  masked b h = ap (bit_and (minus (2 ^ 64) a b)) e ∙ minus_masked a b w ∙ ap (λ (k : ℕ). minus (2 ^ k) a b) (min-eq_left h)
+
+  pub less_masked : (b : ℕ) → w ≤ 64 → bit_and (minus (2 ^ 64) a (b % 2 ^ 64)) mask ≡ minus (2 ^ w) a b
+  less_masked b h = masked (b % 2 ^ 64) h ∙ minus_word w a b h
+
+  -- to 32 bits the low halves of both factors have the product
+  pub less-low : (q b : ℕ) → w ≤ 32 → bit_and (minus (2 ^ 64) a (q % 4294967296 * (b % 4294967296))) mask ≡ minus (2 ^ w) a (q * b)
+  less-low q b h =
+      masked (q % 4294967296 * (b % 4294967296)) (le_trans h (omega arith))
+      ∙ minus_cong (pow_pos w) (cong_of_eq (2 ^ w) refl) (cong_of_pow h (cong_mul (mod-cong (2 ^ 32) q) (mod-cong (2 ^ 32) b)))
 
 -- ---- a row less a multiple of another
 

@@ -74,10 +74,9 @@ pub record Next (w cols c p end side t v : ℕ) (used : List Bool) (mat₀ rhs�
   pub inverse_eq : v ≡ inverse (s.entry p c / 2 ^ t) (w - t)
   pub behind : Behind w (length rhs₀) cols c p end side b s mat₀ rhs₀
 
-module _ (w cols c p a end side t v : ℕ) (used : List Bool) (mat₀ rhs₀ : List ℕ) (la : a < end) (s : State) (b : ℕ)
-    (h : Next w cols c p end side t v used mat₀ rhs₀ s b) where
-  pub next_bounded : c ≤ a → Bounded w cols c p a t used mat₀ rhs₀ s b
-  next_bounded lc =
+module _ (w cols c p a end side t v : ℕ) (used : List Bool) (mat₀ rhs₀ : List ℕ) (lp : p < length rhs₀) (lc : c ≤ a) (la : a < end) where
+  bounded : (s : State) (b : ℕ) → Next w cols c p end side t v used mat₀ rhs₀ s b → Bounded w cols c p a t used mat₀ rhs₀ s b
+  bounded s b h =
       record {
         clearing = h.clearing;
         twos_eq = h.twos_eq;
@@ -86,24 +85,38 @@ module _ (w cols c p a end side t v : ℕ) (used : List Bool) (mat₀ rhs₀ : L
         shows = h.behind.shows;
       }
 
-  -- a row, by the copy of the pivot row's part
-  pub next_row : p < length rhs₀ → end ≤ cols → (src : List ℕ) → length src ≡ end - a
-      → ((k : ℕ) → k < end - a → at src k ≡ at mat₀ (p * cols + a + k)) → (k n : ℕ) (u : State) (mat' rhs' : List ℕ)
-      → (PivotPart w cols a (s.entry p c) t v src side (between a b (s.entry p))
-      → Shows n cols (cleared_row (get_or used k false) w t (s.entry p c) (between a b (s.entry p)) c k u) mat' rhs')
-      → RowCleared w n cols c p a b t k (get_or used k false) s u mat' rhs'
-  next_row lp le src size copied k n u mat' rhs' f =
-      let order : a ≤ b = omega (arith, h.behind.above) in
-      record {
-        pivot = s.entry p c;
-        part = between a b (s.entry p);
-        pivot_eq = refl;
-        low = between-low a b (s.entry p);
-        mid = between_mid a b (s.entry p);
-        high = λ j l m. between-high a b (s.entry p) j (omega arith) l;
-        shows =
-            f (pivot_part w (length rhs₀) c p used s h.clearing lp cols a end side b t v mat₀ rhs₀ src h.behind la le h.inverse_eq size copied);
-      }
+  -- a row more, by the copy of the pivot row's part
+  module _ (le : end ≤ cols) (src : List ℕ) (size : length src ≡ end - a) (copied : (k : ℕ) → k < end - a → at src k ≡ at mat₀ (p * cols + a + k)) where
+    row : (s : State) (b : ℕ) → Next w cols c p end side t v used mat₀ rhs₀ s b → (k n : ℕ) (u : State) (mat' rhs' : List ℕ)
+        → ((e : ℕ) (part : ℕ → ℕ) → PivotPart w cols a e t v src side part
+        → Shows n cols (cleared_row (get_or used k false) w t e part c k u) mat' rhs')
+        → RowCleared w n cols c p a b t k (get_or used k false) s u mat' rhs'
+    row s b h k n u mat' rhs' f =
+        record {
+          pivot = s.entry p c;
+          part = between a b (s.entry p);
+          pivot_eq = refl;
+          low = between-low a b (s.entry p);
+          mid = between_mid a b (s.entry p);
+          high = λ j l m. between-high a b (s.entry p) j (omega (arith, (bounded s b h).order)) l;
+          shows =
+              f (s.entry p c) (between a b (s.entry p))
+              (pivot_part w (length rhs₀) c p used s h.clearing lp cols a end side b t v mat₀ rhs₀ src h.behind la le h.inverse_eq size copied);
+        }
+
+    pub part_step : (mat rhs mat' rhs' : List ℕ) (k : ℕ)
+        → Cleared w cols c a (Next w cols c p end side t v used mat₀ rhs₀) mat₀ rhs₀ mat rhs k → k < length rhs
+        → length mat' ≡ length mat → length rhs' ≡ length rhs
+        → ((u : State) (e : ℕ) (part : ℕ → ℕ) → Shows (length rhs) cols u mat rhs → PivotPart w cols a e t v src side part
+        → ((j : ℕ) → u.entry k j < 2 ^ w) → Shows (length rhs) cols (cleared_row (get_or used k false) w t e part c k u) mat' rhs')
+        → Cleared w cols c a (Next w cols c p end side t v used mat₀ rhs₀) mat₀ rhs₀ mat' rhs' (k + 1)
+    part_step mat rhs mat' rhs' k r lk em er f =
+        cleared_step w cols c p a t used (Next w cols c p end side t v used mat₀ rhs₀) mat₀ rhs₀ lp bounded mat rhs mat' rhs' k r lk em er
+        (λ s b u h g stays small. row s b h k (length rhs) u mat' rhs' (λ e part z. f u e part g z small))
+
+  pub part_done : (mat rhs : List ℕ) (k : ℕ) → Cleared w cols c a (Next w cols c p end side t v used mat₀ rhs₀) mat₀ rhs₀ mat rhs k → length rhs ≤ k
+      → (s : State) (b : ℕ) → Next w cols c p end side t v used mat₀ rhs₀ s b → Shows (length rhs₀) cols (stepped w (length rhs₀) s c (λ i. a)) mat rhs
+  part_done = cleared_done w cols c p a t used (Next w cols c p end side t v used mat₀ rhs₀) mat₀ rhs₀ lp bounded
 
 -- ---- the whole column at once
 
@@ -113,26 +126,27 @@ pub record Whole (w cols c p : ℕ) (used : List Bool) (mat₀ rhs₀ : List ℕ
   pub clearing : Clearing w (length rhs₀) c p used s
   pub bound : b ≡ suc cols
 
-module _ (w cols c p t x : ℕ) (used : List Bool) (mat₀ rhs₀ : List ℕ) (lp : p < length rhs₀) (lc : c < cols) (ex : x ≡ at mat₀ (p * cols + c))
-    (s : State) (b : ℕ) (h : Whole w cols c p used mat₀ rhs₀ s b) where
-  pivot_shown : x ≡ s.entry p c
-  pivot_shown = ex ∙ h.shows.entries p c lp lc
+module _ (w cols c p t v x : ℕ) (used : List Bool) (mat₀ rhs₀ : List ℕ) (lp : p < length rhs₀) (lc : c < cols)
+    (ex : x ≡ at mat₀ (p * cols + c)) (et : t ≡ twos_of w x) (ev : v ≡ inverse (x / 2 ^ t) (w - t)) where
+  pivot_shown : (s : State) (b : ℕ) → Whole w cols c p used mat₀ rhs₀ s b → x ≡ s.entry p c
+  pivot_shown s b h = ex ∙ h.shows.entries p c lp lc
 
-  pub whole_bounded : t ≡ twos_of w x → Bounded w cols c p c t used mat₀ rhs₀ s b
-  whole_bounded et =
+  bounded-whole : (s : State) (b : ℕ) → Whole w cols c p used mat₀ rhs₀ s b → Bounded w cols c p c t used mat₀ rhs₀ s b
+  bounded-whole s b h =
       record {
         clearing = h.clearing;
-        twos_eq = et ∙ ap (twos_of w) pivot_shown;
+        twos_eq = et ∙ ap (twos_of w) (pivot_shown s b h);
         order = omega (arith, h.bound);
         column = omega (arith, h.bound);
         shows = stepped_none w (length rhs₀) c p used s h.clearing lp cols b mat₀ rhs₀ (omega (arith, h.bound)) h.shows;
       }
 
-  pub whole_row : (v k n : ℕ) (u : State) (mat' rhs' : List ℕ) → v ≡ inverse (x / 2 ^ t) (w - t) → ((j : ℕ) → u.entry p j ≡ s.entry p j)
+  whole_row : (s : State) (b : ℕ) → Whole w cols c p used mat₀ rhs₀ s b → (k n : ℕ) (u : State) (mat' rhs' : List ℕ)
+      → ((j : ℕ) → u.entry p j ≡ s.entry p j)
       → (v ≡ inverse (u.entry p c / 2 ^ t) (w - t) → ((j : ℕ) → j < c → u.entry p j ≡ 0)
       → Shows n cols (cleared_row (get_or used k false) w t (u.entry p c) (u.entry p) c k u) mat' rhs')
       → RowCleared w n cols c p c b t k (get_or used k false) s u mat' rhs'
-  whole_row v k n u mat' rhs' ev stays f =
+  whole_row s b h k n u mat' rhs' stays f =
       let zeros : (j : ℕ) → j < c → u.entry p j ≡ 0 = λ j l. stays j ∙ unused w (length rhs₀) c p used s h.clearing lp j l in
       record {
         pivot = u.entry p c;
@@ -141,11 +155,26 @@ module _ (w cols c p t x : ℕ) (used : List Bool) (mat₀ rhs₀ : List ℕ) (l
         low = zeros;
         mid = λ j l m. stays j;
         high = λ j l m. absurd (lt_irrefl j (omega (arith, l, m, h.bound)));
-        shows = f (ev ∙ ap (λ (y : ℕ). inverse (y / 2 ^ t) (w - t)) (pivot_shown ∙ sym (stays c))) zeros;
+        shows = f (ev ∙ ap (λ (y : ℕ). inverse (y / 2 ^ t) (w - t)) (pivot_shown s b h ∙ sym (stays c))) zeros;
       }
 
--- the bound at the column itself
-pub whole_done : (w rows cols c p : ℕ) (used : List Bool) (s : State) → Clearing w rows c p used s → p < rows → c < cols → (mat rhs : List ℕ)
-    → Shows rows cols (stepped w rows s c (λ i. c)) mat rhs → Shows rows cols (step w rows s c) mat rhs
-whole_done w rows cols c p used s r lp lc mat rhs h =
-    stepped-all w rows c p used s r lp cols c mat rhs (omega arith) (λ j l m. absurd (lt_irrefl j (omega (arith, l, m)))) h
+  pub whole_start : Cleared w cols c c (Whole w cols c p used mat₀ rhs₀) mat₀ rhs₀ mat₀ rhs₀ 0
+  whole_start = cleared_start w cols c p c t used (Whole w cols c p used mat₀ rhs₀) mat₀ rhs₀ lp bounded-whole
+
+  pub whole_step : (mat rhs mat' rhs' : List ℕ) (k : ℕ) → Cleared w cols c c (Whole w cols c p used mat₀ rhs₀) mat₀ rhs₀ mat rhs k → k < length rhs
+      → length mat' ≡ length mat → length rhs' ≡ length rhs
+      → ((u : State) → Shows (length rhs) cols u mat rhs → v ≡ inverse (u.entry p c / 2 ^ t) (w - t) → ((j : ℕ) → u.entry k j < 2 ^ w)
+      → ((j : ℕ) → j < c → u.entry p j ≡ 0)
+      → Shows (length rhs) cols (cleared_row (get_or used k false) w t (u.entry p c) (u.entry p) c k u) mat' rhs')
+      → Cleared w cols c c (Whole w cols c p used mat₀ rhs₀) mat₀ rhs₀ mat' rhs' (k + 1)
+  whole_step mat rhs mat' rhs' k r lk em er f =
+      cleared_step w cols c p c t used (Whole w cols c p used mat₀ rhs₀) mat₀ rhs₀ lp bounded-whole mat rhs mat' rhs' k r lk em er
+      (λ s b u h g stays small. whole_row s b h k (length rhs) u mat' rhs' stays (λ e zeros. f u g e small zeros))
+
+  -- the bound at the column itself
+  pub whole_done : (mat rhs : List ℕ) (k : ℕ) → Cleared w cols c c (Whole w cols c p used mat₀ rhs₀) mat₀ rhs₀ mat rhs k → length rhs ≤ k
+      → (s : State) → Shows (length rhs₀) cols s mat₀ rhs₀ → Clearing w (length rhs₀) c p used s → Shows (length rhs₀) cols (step w (length rhs₀) s c) mat rhs
+  whole_done mat rhs k r l s g z =
+      stepped-all w (length rhs₀) c p used s z lp cols c mat rhs (omega arith) (λ j l m. absurd (lt_irrefl j (omega (arith, l, m))))
+      (cleared_done w cols c p c t used (Whole w cols c p used mat₀ rhs₀) mat₀ rhs₀ lp bounded-whole mat rhs k r l s (suc cols)
+      (record { shows = g; clearing = z; bound = refl }))

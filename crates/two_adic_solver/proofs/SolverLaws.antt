@@ -1,18 +1,20 @@
 -- The bare solver: the tables before the first column, and the tests after the last one.
-use Rattle.std.proofs.Common.{◌≡◌, ℕ, zero, suc, ◌+◌, ◌*◌, ◌/◌, ◌%◌, ◌^◌, ◌<◌, ◌≤◌, Bool, true, false, cond, ◌&&◌, ◌||◌, T, eqb, ltb, List, length, get_or, replicate, sym, refl, ap, ◌∙◌, subst, ap₂, not-suc-le-zero, mul-suc, arith, ltb-true, eq-eqb}
+use Rattle.std.proofs.Common.{◌≡◌, ℕ, suc, ◌+◌, ◌*◌, ◌/◌, ◌%◌, ◌^◌, ◌<◌, ◌≤◌, Bool, true, false, cond, ◌&&◌, ◌||◌, eqb, ltb, List, length, get_or, sym, refl, ap, ◌∙◌, subst, ap₂, not-suc-le-zero, le_of_eq, arith, ltb-true, eq-eqb, ne_eqb, lt-ltb, le-ltb, pos_of_ne-zero}
+use Rattle.std.proofs.Math.Bool.{and-false}
 use Rattle.meaning.specs.Settings.{fits_width, first}
 use Rattle.meaning.specs.Calls.{left}
 use Rattle.meaning.specs.Tables.{at, tabulate}
 use Rattle.meaning.specs.Factorials.{twos_of}
 use Rattle.meaning.specs.Recovery.{every}
 use Rattle.meaning.specs.Elimination.{State, start, forward, eliminated, system, divides_rest, substituted, succeeds, solver_rows, solver_cause, solver_state, solver_succeeds, solver_number, solver_answer, solver_matrix, solver_right}
-use Rattle.theory.specs.Every.{every-iff}
-use Rattle.theory.specs.Tables.{length-tabulate, at-tabulate, eq-tabulate, tabulate_cong}
+use Rattle.theory.specs.Every.{true-iff, every-iff, every_cong}
+use Rattle.theory.specs.Tables.{length-tabulate, at-tabulate, eq-tabulate}
 use Rattle.theory.specs.Echelon.{echelon_start}
 use Rattle.theory.specs.SolverLaws.{system-lt}
 use Rattle.two_adic_solver.specs.ShownStates.{shown-start, shown_matrix, shown_right}
 use Rattle.two_adic_solver.specs.Shown.{Shown}
-use Rattle.two_adic_solver.specs.Solved.{Substituted, Ended, Concluded, Finished}
+use Rattle.two_adic_solver.specs.Solved.{end_of, Substituted, Ended, Concluded, Finished}
+use Rattle.two_adic_solver.proofs.ColumnLaws.{Passed}
 
 -- reduced tables show the system before the first column
 pub shown_reduced : (w rows cols : ℕ) (mat₀ rhs₀ mat rhs : List ℕ) (used : List Bool) (pivots : List ℕ) → length mat₀ ≡ rows * cols → length rhs₀ ≡ rows
@@ -38,47 +40,26 @@ shown_reduced w rows cols mat₀ rhs₀ mat rhs used pivots em er fm fr free =
 
 -- ---- the tests
 
-T_of : {b : Bool} → b ≡ true → T b
-T_of e = rw e tt
-
-every_same : (n : ℕ) (p q : ℕ → Bool) → ((i : ℕ) → i < n → p i ≡ q i) → every n p ≡ every n q
-every_same n p q h = go (every n p) (every n q) refl refl
-  where
-    go : (a b : Bool) → every n p ≡ a → every n q ≡ b → every n p ≡ every n q
-    go true true e f = e ∙ sym f
-    go false false e f = e ∙ sym f
-    go true false e f =
-        absurd (subst (λ (b : Bool). T b) f ((every-iff n q).1 (λ i l. subst (λ (b : Bool). T b) (h i l) ((every-iff n p).0 (T_of e) i l))))
-    go false true e f =
-        absurd (subst (λ (b : Bool). T b) e ((every-iff n p).1 (λ i l. subst (λ (b : Bool). T b) (sym (h i l)) ((every-iff n q).0 (T_of f) i l))))
-
 module _ (w rows cols : ℕ) (mat rhs : List ℕ) (used : List Bool) (pivots : List ℕ) where
   -- where every column has a pivot, its entry has fewer twos than the width
   pub ended_low : Ended w rows cols mat rhs used pivots → true ≡ every cols (λ c. ltb (at pivots c) rows)
       → (j : ℕ) → j < cols → (at pivots j < rows) × (twos_of w (at mat (at pivots j * cols + j)) < w)
   ended_low r e j l =
       let h = r.shown in
-      let p : at pivots j < rows = ltb-true _ _ (true_of _ ((every-iff cols (λ c. ltb (at pivots c) rows)).0 (T_of (sym e)) j l)) in (
+      let have = (every-iff cols (λ c. ltb (at pivots c) rows)).0 ((true-iff _).0 (sym e)) j l in
+      let p : at pivots j < rows = ltb-true _ _ ((true-iff _).1 have) in (
         p,
         subst (λ (n : ℕ). twos_of w n < w)
             (sym (h.shows.entries (at pivots j) j p l ∙ ap (λ (i : ℕ). r.state.entry i j) (h.rows_eq j l)))
             (h.echelon.pivots j l (subst (◌< rows) (h.rows_eq j l) p)).low,
       )
-    where
-      true_of : (b : Bool) → T b → b ≡ true
-      true_of true t = refl
-      true_of false t = absurd t
 
   module _ (s : State) (h : Shown w rows cols s cols mat rhs used pivots) (x : List ℕ) where
     have : every cols (λ c. ltb (at pivots c) rows) ≡ every cols (λ c. ltb (s.pivot c) rows)
-    have = every_same cols _ _ (λ c l. ap (λ (p : ℕ). ltb p rows) (h.rows_eq c l))
+    have = every_cong cols (λ c l. ap (λ (p : ℕ). ltb p rows) (h.rows_eq c l))
 
     right : every rows (λ i. get_or used i false || eqb (at rhs i) 0) ≡ every rows (λ i. s.used i || eqb (s.entry i cols) 0)
-    right = every_same rows _ _ (λ i l. ap₂ (λ (b : Bool) (n : ℕ). b || eqb n 0) (h.marked i l) (h.shows.rights i l))
-
-    and_false : (a b : Bool) → b ≡ false → (a && b) ≡ false
-    and_false true b e = e
-    and_false false b e = refl
+    right = every_cong rows (λ i l. ap₂ (λ (b : Bool) (n : ℕ). b || eqb n 0) (h.marked i l) (h.shows.rights i l))
 
     pub concluded_pivots : every cols (λ c. ltb (at pivots c) rows) ≡ false → Concluded w rows cols s x false
     unfolding succeeds
@@ -88,7 +69,7 @@ module _ (w rows cols : ℕ) (mat rhs : List ℕ) (used : List Bool) (pivots : L
               sym (ap (λ (a : Bool). (a && every rows (λ i. s.used i || eqb (s.entry i cols) 0)) && every cols
               (λ c. divides_rest w cols s (substituted w cols s) c))
               (sym have ∙ e));
-          values = λ f. absurd (subst (λ (b : Bool). T b) (sym f) tt);
+          values = λ f. cc;
         }
 
     pub concluded_right : every rows (λ i. get_or used i false || eqb (at rhs i) 0) ≡ false → Concluded w rows cols s x false
@@ -96,9 +77,10 @@ module _ (w rows cols : ℕ) (mat rhs : List ℕ) (used : List Bool) (pivots : L
     concluded_right e =
         record {
           success =
-              sym (ap (◌&& every cols (λ c. divides_rest w cols s (substituted w cols s) c))
-              (and_false (every cols (λ c. ltb (s.pivot c) rows)) (every rows (λ i. s.used i || eqb (s.entry i cols) 0)) (sym right ∙ e)));
-          values = λ f. absurd (subst (λ (b : Bool). T b) (sym f) tt);
+              sym (ap (λ (b : Bool). (every cols (λ c. ltb (s.pivot c) rows) && b) && every cols (λ c. divides_rest w cols s (substituted w cols s) c))
+              (sym right ∙ e)
+              ∙ ap (◌&& every cols (λ c. divides_rest w cols s (substituted w cols s) c)) (and-false (every cols (λ c. ltb (s.pivot c) rows))));
+          values = λ f. cc;
         }
 
     pub concluded : (r : Bool) → every cols (λ c. ltb (at pivots c) rows) ≡ true → every rows (λ i. get_or used i false || eqb (at rhs i) 0) ≡ true
@@ -114,70 +96,52 @@ module _ (w rows cols : ℕ) (mat rhs : List ℕ) (used : List Bool) (pivots : L
 
 -- ---- the elimination of the lent tables
 
-pub eliminated-told : (w cols : ℕ) (mat₀ rhs₀ mat rhs : List ℕ) (used : List Bool) (piv mat' rhs' : List ℕ) (used' : List Bool) (piv' : List ℕ)
+pub eliminated-told : (w cols : ℕ) (mat₀ rhs₀ mat rhs : List ℕ) (used : List Bool) (piv mat' rhs' : List ℕ) (used' : List Bool) (piv' : List ℕ) (c : ℕ)
     → length mat₀ ≡ length rhs₀ * cols
     → mat ≡ tabulate (length mat₀) (λ n. at mat₀ n % 2 ^ w) → rhs ≡ tabulate (length rhs₀) (λ n. at rhs₀ n % 2 ^ w)
-    → ((s : State) → Shown w (length rhs) cols s 0 mat rhs used piv
-    → Shown w (length rhs) cols (forward w (length rhs) s cols) cols mat' rhs' used' piv')
     → ((i : ℕ) → i < length rhs₀ → get_or used i false ≡ false)
-    → Shown w (length rhs₀) cols (eliminated w (length rhs₀) cols (system w cols mat₀ rhs₀)) cols mat' rhs' used' piv'
+    → Passed w cols mat rhs used piv mat' rhs' used' piv' c → cols ≤ c
+    → Shown w (length rhs₀) cols (end_of w cols mat₀ rhs₀) cols mat' rhs' used' piv'
 unfolding eliminated
-eliminated-told w cols mat₀ rhs₀ mat rhs used piv mat' rhs' used' piv' em fm fr f free =
-    subst (λ (n : ℕ). (s : State) → Shown w n cols s 0 mat rhs used piv → Shown w n cols (forward w n s cols) cols mat' rhs' used' piv')
-    (ap length fr ∙ length-tabulate (length rhs₀) _) f (start (system w cols mat₀ rhs₀))
-    (shown_reduced w (length rhs₀) cols mat₀ rhs₀ mat rhs used piv em refl fm fr free)
+eliminated-told w cols mat₀ rhs₀ mat rhs used piv mat' rhs' used' piv' c em fm fr free r l =
+    let done : c ≡ cols = omega (arith, r.within) in
+    subst (λ (k : ℕ). Shown w (length rhs₀) cols (forward w (length rhs₀) (start (system w cols mat₀ rhs₀)) k) k mat' rhs' used' piv') done
+    (subst (λ (n : ℕ). (s : State) → Shown w n cols s 0 mat rhs used piv → Shown w n cols (forward w n s c) c mat' rhs' used' piv')
+    (ap length fr ∙ length-tabulate (length rhs₀) _) r.so_far (start (system w cols mat₀ rhs₀))
+    (shown_reduced w (length rhs₀) cols mat₀ rhs₀ mat rhs used piv em refl fm fr free))
 
 -- ---- the whole of a system that fits
 
-module _ (w cols : ℕ) (mat₀ rhs₀ mat rhs : List ℕ) (used : List Bool) (piv x : List ℕ)
-    (h : Shown w (length rhs₀) cols (eliminated w (length rhs₀) cols (system w cols mat₀ rhs₀)) cols mat rhs used piv) where
-  abbrev ended_state : State
-  ended_state = eliminated w (length rhs₀) cols (system w cols mat₀ rhs₀)
-
-  rows_same : length rhs ≡ length rhs₀
-  rows_same = h.shows.right_length
-
-  -- some state is shown, in the words of the right side at the end
-  pub ended : Ended w (length rhs) cols mat rhs used piv
-  ended = record { state = ended_state; shown = subst (λ (n : ℕ). Shown w n cols ended_state cols mat rhs used piv) (sym rows_same) h }
-
-  module _ (r : Bool) (k : (s : State) → Shown w (length rhs) cols s cols mat rhs used piv → Concluded w (length rhs) cols s x r) where
-    end : Concluded w (length rhs₀) cols ended_state x r
+module _ (w cols : ℕ) (mat₀ rhs₀ : List ℕ) {mat rhs : List ℕ} {used : List Bool} {piv : List ℕ}
+    (h : Shown w (length rhs₀) cols (end_of w cols mat₀ rhs₀) cols mat rhs used piv) where
+  module _ {x : List ℕ} {r : Bool} (k : (s : State) → Shown w (length rhs) cols s cols mat rhs used piv → Concluded w (length rhs) cols s x r) where
+    end : Concluded w (length rhs₀) cols (end_of w cols mat₀ rhs₀) x r
     end =
-        subst (λ (n : ℕ). (s : State) → Shown w n cols s cols mat rhs used piv → Concluded w n cols s x r) rows_same k ended_state h
+        subst (λ (n : ℕ). (s : State) → Shown w n cols s cols mat rhs used piv → Concluded w n cols s x r) h.shows.right_length k
+        (end_of w cols mat₀ rhs₀) h
+
+    told : (b : Bool) → r ≡ b → succeeds w (length rhs₀) cols (end_of w cols mat₀ rhs₀) ≡ b
+    told b e = sym end.success ∙ e
 
     pub finished_accepted : r ≡ true → length x ≡ cols → Finished w cols mat₀ rhs₀ mat rhs x 0
     finished_accepted e l =
-        let t : succeeds w (length rhs₀) cols ended_state ≡ true = sym end.success ∙ e in
         record {
-          number_eq = sym (ap (λ (b : Bool). cond b 0 10) t);
+          number_eq = sym (ap (λ (b : Bool). cond b 0 10) (told true e));
           answer_eq =
-              eq-tabulate x cols _ l (λ j q. end.values e j q ∙ sym (ap (λ (b : Bool). cond b (substituted w cols ended_state j) 0) t));
+              eq-tabulate x cols _ l
+              (λ j q. end.values e j q ∙ sym (ap (λ (b : Bool). cond b (substituted w cols (end_of w cols mat₀ rhs₀) j) 0) (told true e)));
           shows = h.shows;
         }
 
-    pub finished_refused : r ≡ false → (y : List ℕ) → length x ≡ cols → y ≡ tabulate (length x) (λ n. 0) → Finished w cols mat₀ rhs₀ mat rhs y 10
-    finished_refused e y l z =
-        let t : succeeds w (length rhs₀) cols ended_state ≡ false = sym end.success ∙ e in
-        record {
-          number_eq = sym (ap (λ (b : Bool). cond b 0 10) t);
-          answer_eq =
-              z
-              ∙ ap (λ (n : ℕ). tabulate n (λ n. 0)) l
-              ∙ tabulate_cong cols _ _ (λ j q. sym (ap (λ (b : Bool). cond b (substituted w cols ended_state j) 0) t));
-          shows = h.shows;
-        }
-
--- ---- rooms
-
-pub unmarked : (n i : ℕ) → get_or (replicate n false) i false ≡ false
-unmarked zero i = refl
-unmarked (suc n) zero = refl
-unmarked (suc n) (suc i) = unmarked n i
-
--- ---- the causes in their order
+-- ---- a call
 
 module _ (w cols : ℕ) (mat rhs x : List ℕ) where
+  -- its number and its tables
+  abbrev pub Told : ℕ → List ℕ → List ℕ → List ℕ → Type 0
+  Told n mat' rhs' x' =
+      (n ≡ solver_number w cols mat rhs x) × (mat' ≡ solver_matrix w cols mat rhs x) × (rhs' ≡ solver_right w cols mat rhs x)
+      × (x' ≡ solver_answer w cols mat rhs x)
+
   abbrev cause : Bool → Bool → Bool → ℕ
   cause a b d = cond a (cond b 8 (cond d 0 9)) 3
 
@@ -187,13 +151,11 @@ module _ (w cols : ℕ) (mat rhs x : List ℕ) where
   abbrev fits : Bool
   fits = ltb 0 cols && eqb (solver_rows cols mat * cols) (length mat) && eqb (length rhs) (solver_rows cols mat) && eqb (length x) cols
 
-  cause-eq : solver_cause w cols mat rhs x ≡ cause (fits_width w) big fits
+  cause-eq : (a b d : Bool) → fits_width w ≡ a → big ≡ b → fits ≡ d → solver_cause w cols mat rhs x ≡ cause a b d
   unfolding solver_cause
-  cause-eq = refl
+  cause-eq a b d e f g = ap₂ (λ (a b : Bool). cause a b fits) e f ∙ ap (cause a b) g
 
-  refused : (n : ℕ) → solver_cause w cols mat rhs x ≡ suc n
-      → (suc n ≡ solver_number w cols mat rhs x) × (mat ≡ solver_matrix w cols mat rhs x) × (rhs ≡ solver_right w cols mat rhs x) ×
-      (x ≡ solver_answer w cols mat rhs x)
+  refused : (n : ℕ) → solver_cause w cols mat rhs x ≡ suc n → Told (suc n) mat rhs x
   unfolding solver_number solver_matrix solver_right solver_answer
   refused n e = (
     sym (ap (λ (k : ℕ). first k (cond (solver_succeeds w cols mat rhs) 0 10)) e),
@@ -202,28 +164,11 @@ module _ (w cols : ℕ) (mat rhs x : List ℕ) where
     sym (ap (λ (k : ℕ). left k (tabulate cols (λ c. cond (solver_succeeds w cols mat rhs) (substituted w cols (solver_state w cols mat rhs) c) 0)) x) e),
   )
 
-  pub refused_width : fits_width w ≡ false
-      → (3 ≡ solver_number w cols mat rhs x) × (mat ≡ solver_matrix w cols mat rhs x) × (rhs ≡ solver_right w cols mat rhs x) × (x ≡ solver_answer w cols mat rhs x)
-  refused_width e = refused 2 (cause-eq ∙ ap (λ (b : Bool). cause b big fits) e)
-
-  pub refused_size : fits_width w ≡ true → (ltb 65536 (length mat) || ltb 65536 cols) ≡ true
-      → (8 ≡ solver_number w cols mat rhs x) × (mat ≡ solver_matrix w cols mat rhs x) × (rhs ≡ solver_right w cols mat rhs x) × (x ≡ solver_answer w cols mat rhs x)
-  refused_size e f = refused 7 (cause-eq ∙ ap₂ (λ (b d : Bool). cause b d fits) e f)
-
-  pub refused-length : fits_width w ≡ true → (ltb 65536 (length mat) || ltb 65536 cols) ≡ false
-      → (ltb 0 cols && eqb (solver_rows cols mat * cols) (length mat) && eqb (length rhs) (solver_rows cols mat) && eqb (length x) cols) ≡ false
-      → (9 ≡ solver_number w cols mat rhs x) × (mat ≡ solver_matrix w cols mat rhs x) × (rhs ≡ solver_right w cols mat rhs x) × (x ≡ solver_answer w cols mat rhs x)
-  refused-length e f g = refused 8 (cause-eq ∙ ap₂ (λ (b d : Bool). cause b d fits) e f ∙ ap (cause true false) g)
-
   -- no cause
-  pub accepted_call : fits_width w ≡ true → (ltb 65536 (length mat) || ltb 65536 cols) ≡ false
-      → (ltb 0 cols && eqb (solver_rows cols mat * cols) (length mat) && eqb (length rhs) (solver_rows cols mat) && eqb (length x) cols) ≡ true
-      → length rhs ≡ solver_rows cols mat → (n : ℕ) (mat' rhs' x' : List ℕ) → length mat' ≡ length mat → Finished w cols mat rhs mat' rhs' x' n
-      → (n ≡ solver_number w cols mat rhs x) × (mat' ≡ solver_matrix w cols mat rhs x) × (rhs' ≡ solver_right w cols mat rhs x) ×
-      (x' ≡ solver_answer w cols mat rhs x)
+  accepted : solver_cause w cols mat rhs x ≡ 0 → length rhs ≡ solver_rows cols mat → (n : ℕ) (mat' rhs' x' : List ℕ) → length mat' ≡ length mat
+      → Finished w cols mat rhs mat' rhs' x' n → Told n mat' rhs' x'
   unfolding solver_number solver_matrix solver_right solver_answer solver_succeeds solver_state
-  accepted_call e f g q n mat' rhs' x' lm k =
-      let none : solver_cause w cols mat rhs x ≡ 0 = cause-eq ∙ ap₂ (λ (b d : Bool). cause b d fits) e f ∙ ap (cause true false) g in
+  accepted none q n mat' rhs' x' lm k =
       let end : ℕ → State = λ r. eliminated w r cols (system w cols mat rhs) in (
         k.number_eq
             ∙ ap (λ (r : ℕ). cond (succeeds w r cols (end r)) 0 10) q
@@ -240,56 +185,55 @@ module _ (w cols : ℕ) (mat rhs x : List ℕ) where
             (substituted w cols (solver_state w cols mat rhs) c) 0)) x) none),
       )
 
--- ---- the tests of a call, one after the other
+  -- ---- its tests, one after the other
 
-and_false-left : (a b : Bool) → a ≡ false → (a && b) ≡ false
-and_false-left a b e = ap (◌&& b) e
+  pub refused_width : fits_width w ≡ false → Told 3 mat rhs x
+  refused_width e = refused 2 (cause-eq _ _ _ e refl refl)
 
-and_false_right : (a b : Bool) → b ≡ false → (a && b) ≡ false
-and_false_right true b e = e
-and_false_right false b e = refl
+  module _ (ok : fits_width w ≡ true) where
+    pub many_entries : 65536 < length mat → Told 8 mat rhs x
+    many_entries l = refused 7 (cause-eq _ _ _ ok (ap (◌|| ltb 65536 cols) (lt-ltb 65536 _ l)) refl)
 
-module _ (w cols : ℕ) (mat rhs x : List ℕ) (ok : fits_width w ≡ true) (small : (ltb 65536 (length mat) || ltb 65536 cols) ≡ false) where
-  abbrev Ninth : Type 0
-  Ninth = (9 ≡ solver_number w cols mat rhs x) × (mat ≡ solver_matrix w cols mat rhs x) × (rhs ≡ solver_right w cols mat rhs x) ×
-      (x ≡ solver_answer w cols mat rhs x)
+    module _ (few : length mat ≤ 65536) where
+      pub many_columns : 65536 < cols → Told 8 mat rhs x
+      many_columns l = refused 7 (cause-eq _ _ _ ok (ap₂ ◌||◌ (le-ltb 65536 _ few) (lt-ltb 65536 _ l)) refl)
 
-  pub no_columns : ltb 0 cols ≡ false → Ninth
-  no_columns e =
-      refused-length w cols mat rhs x ok small
-      (and_false-left _ (eqb (length x) cols) (and_false-left _ (eqb (length rhs) (solver_rows cols mat))
-      (and_false-left _ (eqb (solver_rows cols mat * cols) (length mat)) e)))
+      module _ (narrow : cols ≤ 65536) where
+        small : big ≡ false
+        small = ap₂ ◌||◌ (le-ltb 65536 _ few) (le-ltb 65536 _ narrow)
 
-  pub ragged : eqb (length mat / cols * cols) (length mat) ≡ false → Ninth
-  unfolding solver_rows
-  ragged e =
-      refused-length w cols mat rhs x ok small
-      (and_false-left _ (eqb (length x) cols) (and_false-left _ (eqb (length rhs) (length mat / cols)) (and_false_right (ltb 0 cols) _ e)))
+        unfit : fits ≡ false → Told 9 mat rhs x
+        unfit e = refused 8 (cause-eq _ _ _ ok small e)
 
-  pub wrong_right : eqb (length rhs) (length mat / cols) ≡ false → Ninth
-  unfolding solver_rows
-  wrong_right e =
-      refused-length w cols mat rhs x ok small
-      (and_false-left _ (eqb (length x) cols) (and_false_right (ltb 0 cols && eqb (length mat / cols * cols) (length mat)) _ e))
+        pub no_columns : cols ≡ 0 → Told 9 mat rhs x
+        no_columns e =
+            let whole : Bool = eqb (solver_rows cols mat * cols) (length mat) in
+            let sides : Bool = eqb (length rhs) (solver_rows cols mat) in
+            unfit (ap (λ (b : Bool). b && whole && sides && eqb (length x) cols) (le-ltb 0 cols (le_of_eq e)))
 
-  pub wrong_answer : eqb (length x) cols ≡ false → Ninth
-  wrong_answer e = refused-length w cols mat rhs x ok small
-      (and_false_right (ltb 0 cols && eqb (solver_rows cols mat * cols) (length mat) && eqb (length rhs) (solver_rows cols mat)) (eqb (length x) cols) e)
+        pub ragged : (length mat / cols * cols ≡ length mat → ⊥) → Told 9 mat rhs x
+        unfolding solver_rows
+        ragged ne =
+            let sides : Bool = eqb (length rhs) (length mat / cols) in
+            unfit (ap (λ (b : Bool). (ltb 0 cols && b) && sides && eqb (length x) cols) (ne_eqb _ _ ne)
+            ∙ ap (λ (b : Bool). b && sides && eqb (length x) cols) (and-false (ltb 0 cols)))
 
-  pub fitting_call : ltb 0 cols ≡ true → eqb (length mat / cols * cols) (length mat) ≡ true → length rhs ≡ length mat / cols → length x ≡ cols
-      → (n : ℕ) (mat' rhs' x' : List ℕ) → length mat' ≡ length mat → Finished w cols mat rhs mat' rhs' x' n
-      → (n ≡ solver_number w cols mat rhs x) × (mat' ≡ solver_matrix w cols mat rhs x) × (rhs' ≡ solver_right w cols mat rhs x) ×
-      (x' ≡ solver_answer w cols mat rhs x)
-  unfolding solver_rows
-  fitting_call a b d e =
-      accepted_call w cols mat rhs x ok small
-      (ap₂ ◌&&◌ (ap₂ ◌&&◌ (ap₂ ◌&&◌ a b) (eq-eqb _ _ d)) (eq-eqb _ _ e)) d
+        pub wrong_right : (length rhs ≡ length mat / cols → ⊥) → Told 9 mat rhs x
+        unfolding solver_rows
+        wrong_right ne =
+            let whole : Bool = ltb 0 cols && eqb (length mat / cols * cols) (length mat) in
+            unfit (ap (λ (b : Bool). (whole && b) && eqb (length x) cols) (ne_eqb _ _ ne) ∙ ap (◌&& eqb (length x) cols) (and-false whole))
 
--- there are no more rows than entries
-pub rows-le : (r c n : ℕ) → 0 < c → r * c ≡ n → r ≤ n
-rows-le r zero n h e = absurd (not-suc-le-zero h)
-rows-le r (suc c) n h e = omega (arith, e, mul-suc r c)
+        pub wrong_answer : (length x ≡ cols → ⊥) → Told 9 mat rhs x
+        wrong_answer ne =
+            let rest : Bool = ltb 0 cols && eqb (solver_rows cols mat * cols) (length mat) && eqb (length rhs) (solver_rows cols mat) in
+            unfit (ap (rest &&◌) (ne_eqb _ _ ne) ∙ and-false rest)
 
-pub positive : (n : ℕ) → (n ≡ 0 → ⊥) → 0 < n
-positive zero h = absurd (h refl)
-positive (suc n) h = omega arith
+        pub fitting_call : (cols ≡ 0 → ⊥) → length mat / cols * cols ≡ length mat → length rhs ≡ length mat / cols → length x ≡ cols
+            → (n : ℕ) (mat' rhs' x' : List ℕ) → length mat' ≡ length mat → Finished w cols mat rhs mat' rhs' x' n → Told n mat' rhs' x'
+        unfolding solver_rows
+        fitting_call a b d e =
+            accepted
+            (cause-eq _ _ _ ok small
+            (ap₂ ◌&&◌ (ap₂ ◌&&◌ (ap₂ ◌&&◌ (lt-ltb 0 _ (pos_of_ne-zero a)) (eq-eqb _ _ b)) (eq-eqb _ _ d)) (eq-eqb _ _ e)))
+            d

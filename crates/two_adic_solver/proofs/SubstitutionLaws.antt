@@ -1,7 +1,7 @@
 -- Back-substitution on tables: tests of all rows and columns, a column's rest and value, and the columns one after the other, last first.
-use Rattle.std.proofs.Common.{◌≡◌, ℕ, suc, ◌+◌, ◌-◌, ◌*◌, ◌/◌, ◌%◌, ◌^◌, ◌<◌, ◌≤◌, min, Bool, true, false, T, eqb, List, length, set, sym, refl, ap, ◌∙◌, subst, ap₂, ⊎_elim, zero-le, le_trans, le_of_eq, le_refl, mul-le-mul_right, suc-mul, eq-or-lt_of_le, ne_of_gt, arith, get_or-set_other, get_or-set_same, pow_pos, eq-eqb, ne_eqb}
-use native.Mathlib.Nat.{min-eq_left}
-use lib.ListN.{get_or-eq_default}
+use Rattle.std.proofs.Common.{◌≡◌, ℕ, suc, ◌+◌, ◌-◌, ◌*◌, ◌/◌, ◌%◌, ◌^◌, ◌<◌, ◌≤◌, min, Bool, true, false, T, eqb, List, length, set, sym, refl, ap, ◌∙◌, subst, ap₂, ⊎_elim, zero-le, le_trans, le_of_eq, le_refl, mul-le-mul_right, suc-mul, eq-or-lt_of_le, ne_of_gt, arith, get_or-set_other, get_or-set_same, eq-eqb, ne_eqb}
+use Rattle.std.proofs.Math.Nat.{min-eq_left}
+use Rattle.std.proofs.Math.ListN.{get_or-eq_default}
 use Rattle.meaning.specs.Tables.{at}
 use Rattle.meaning.specs.Factorials.{twos_of}
 use Rattle.meaning.specs.Inverses.{inverse}
@@ -9,41 +9,16 @@ use Rattle.meaning.specs.Sums.{sum}
 use Rattle.meaning.specs.Differences.{minus}
 use Rattle.meaning.specs.Recovery.{every}
 use Rattle.meaning.specs.Elimination.{State, quotient, pivot_entry, rest, divides_rest, unknown, substituted}
-use Rattle.theory.specs.Congruence.{mod-cong, cong_of_eq, minus_cong}
-use Rattle.theory.specs.Words.{cong_of_pow}
 use Rattle.theory.specs.Sums.{sum_eq}
-use Rattle.theory.specs.Every.{every-iff}
+use Rattle.theory.specs.Every.{true-iff, every-iff}
 use Rattle.theory.specs.BackSubstitution.{unknown-eq, divides_rest-eq, backward_keeps, substituted-unknown}
 use Rattle.theory.specs.Parts.{part, length_part, at_part}
 use Rattle.two_adic_solver.specs.ShownStates.{Shows}
 use Rattle.two_adic_solver.specs.Solved.{rest_of, Solved, Substituted}
 use Rattle.two_adic_solver.proofs.ClearLaws.{quotient-told}
-
--- ---- tests
-
-true_of : (b : Bool) → T b → b ≡ true
-true_of true t = refl
-true_of false t = absurd t
-
-T_of : {b : Bool} → b ≡ true → T b
-T_of e = rw e tt
-
-pub every-all : (n : ℕ) (p : ℕ → Bool) → ((i : ℕ) → i < n → p i ≡ true) → every n p ≡ true
-every-all n p h = true_of (every n p) ((every-iff n p).1 (λ i l. T_of (h i l)))
-
-pub every_fails : (n : ℕ) (p : ℕ → Bool) (i : ℕ) → i < n → p i ≡ false → every n p ≡ false
-every_fails n p i l e = go (every n p) refl
-  where
-    go : (b : Bool) → every n p ≡ b → b ≡ false
-    go false h = refl
-    go true h = absurd (subst (λ (b : Bool). T b) e ((every-iff n p).0 (T_of h) i l))
-
--- ---- sums of products
+use Rattle.two_adic_solver.proofs.RowLaws.{minus_word}
 
 -- ---- one column
-
-pub minus_word : (w a b : ℕ) → w ≤ 64 → minus (2 ^ w) a (b % 2 ^ 64) ≡ minus (2 ^ w) a b
-minus_word w a b h = minus_cong (pow_pos w) (cong_of_eq (2 ^ w) refl) (cong_of_pow h (mod-cong (2 ^ 64) b))
 
 -- the rest from the parts of the row and of the values behind column c
 pub rest_computed : (w rows cols : ℕ) (mat rhs x : List ℕ) (p c known r : ℕ) → length mat ≡ rows * cols → p < rows → c < cols → length x ≡ cols → w ≤ 64
@@ -104,7 +79,7 @@ module _ (w rows cols : ℕ) (s : State) (mat rhs : List ℕ) (h : Shows rows co
 
     pub solved_fails : (r % 2 ^ t ≡ 0 → ⊥) → (x' : List ℕ) → Solved w cols s c x x' false
     solved_fails ne x' =
-        record { divides = sym (ne_eqb _ 0 ne) ∙ divides-told; value = λ f. absurd (subst (λ (b : Bool). T b) (sym f) tt) }
+        record { divides = sym (ne_eqb _ 0 ne) ∙ divides-told; value = λ f. cc }
 
     pub solved_passes : r % 2 ^ t ≡ 0 → (v m : ℕ) → v ≡ inverse (at mat (p * cols + c) / 2 ^ t) (w - t) → m ≡ (r / 2 ^ t * v) % 2 ^ (w - t)
         → Solved w cols s c x (set x c m) true
@@ -174,14 +149,21 @@ module _ (w cols : ℕ) (s : State) where
   values_fail : (x x' y : List ℕ) (d : ℕ) → d < cols → Values w cols s x (suc d) → Solved w cols s d x x' false → Substituted w cols s y false
   values_fail x x' y d ld v r =
       record {
-        divide = sym (every_fails cols (λ c. divides_rest w cols s (substituted w cols s) c) d ld (turn x d v ∙ sym r.divides));
-        values = λ f. absurd (subst (λ (b : Bool). T b) (sym f) tt);
+        divide = fails (turn x d v ∙ sym r.divides) (every cols passes) refl;
+        values = λ f. cc;
       }
+    where
+      passes : ℕ → Bool
+      passes = divides_rest w cols s (substituted w cols s)
+
+      fails : passes d ≡ false → (b : Bool) → every cols passes ≡ b → false ≡ b
+      fails e false h = refl
+      fails e true h = absurd (subst (λ (b : Bool). T b) e ((every-iff cols passes).0 ((true-iff _).0 h) d ld))
 
   values_done : (x : List ℕ) → Values w cols s x 0 → Substituted w cols s x true
   values_done x v =
       record {
-        divide = sym (every-all cols _ (λ j l. v.passed j zero-le l));
+        divide = sym ((true-iff _).1 ((every-iff cols _).1 (λ j l. (true-iff _).0 (v.passed j zero-le l))));
         values = λ f j l. v.agree j zero-le;
       }
 

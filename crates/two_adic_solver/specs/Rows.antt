@@ -4,6 +4,10 @@ use Rattle.meaning.specs.Tables.{at}
 use Rattle.meaning.specs.Differences.{minus}
 use Rattle.meaning.specs.Factorials.{twos_of}
 
+-- the sizes of a matrix in `cols` columns, its rows one behind the other, and of a right side for each row
+abbrev pub Sizes : ℕ → List ℕ → List ℕ → Type 0
+Sizes cols mat rhs = (length mat ≡ length rhs * cols) × (length mat ≤ 65536) × (length rhs ≤ 65536)
+
 -- t is t₀, but for the n numbers from `dst` on: each less q times the number of `src`, modulo m
 pub record Subtracted (m q dst n : ℕ) (src : ℕ → ℕ) (t₀ t : List ℕ) : Type 0 where
   pub same : length t ≡ length t₀

@@ -33,10 +33,14 @@ pub record Concluded (w rows cols : ℕ) (s : State) (x : List ℕ) (r : Bool) :
   pub success : r ≡ succeeds w rows cols s
   pub values : r ≡ true → (j : ℕ) → j < cols → at x j ≡ substituted w cols s j
 
+-- the state in which the elimination of two tables ends
+abbrev pub end_of : ℕ → ℕ → List ℕ → List ℕ → State
+end_of w cols mat rhs = eliminated w (length rhs) cols (system w cols mat rhs)
+
 -- the number, the matrix, the right side and the answer of a system that fits, whose tables were mat₀ and rhs₀
 pub record Finished (w cols : ℕ) (mat₀ rhs₀ mat rhs x : List ℕ) (number : ℕ) : Type 0 where
-  pub number_eq : number ≡ cond (succeeds w (length rhs₀) cols (eliminated w (length rhs₀) cols (system w cols mat₀ rhs₀))) 0 10
+  pub number_eq : number ≡ cond (succeeds w (length rhs₀) cols (end_of w cols mat₀ rhs₀)) 0 10
   pub answer_eq : x ≡ tabulate cols
-      (λ c. cond (succeeds w (length rhs₀) cols (eliminated w (length rhs₀) cols (system w cols mat₀ rhs₀)))
-      (substituted w cols (eliminated w (length rhs₀) cols (system w cols mat₀ rhs₀)) c) 0)
-  pub shows : Shows (length rhs₀) cols (eliminated w (length rhs₀) cols (system w cols mat₀ rhs₀)) mat rhs
+      (λ c. cond (succeeds w (length rhs₀) cols (end_of w cols mat₀ rhs₀))
+      (substituted w cols (end_of w cols mat₀ rhs₀) c) 0)
+  pub shows : Shows (length rhs₀) cols (end_of w cols mat₀ rhs₀) mat rhs

@@ -6,9 +6,10 @@ ghost use Rattle.two_adic_solver.specs.Solves.{Solves};
 
 use crate::solution;
 use crate::square::Four;
+use crate::width::Width;
 use answers::Refusal;
 
-// The test of the width, and the system where it passes.
+// The test of the width, and the system where it passes. Apart from the call, so that what an answer solves is shown once and not at each return.
 fn solve_checked(matrix: [[u64; 4]; 4], right: [u64; 4], bitwidth: u32) -> Result<[u64; 4], Refusal>
     ensures { (solved_number result ≡ fixed_number bitwidth matrix right) × (solved_answer result ≡ fixed_answer bitwidth matrix right) }
 {
@@ -18,11 +19,11 @@ fn solve_checked(matrix: [[u64; 4]; 4], right: [u64; 4], bitwidth: u32) -> Resul
     let mut four = Four {
         entries: matrix,
         right,
-        bitwidth,
+        used: [false; 4],
+        width: Width { bits: bitwidth },
     };
-    let mut used = [false; 4];
     let mut answer = [0; 4];
-    solution::solve(&mut four, &mut used, &mut answer)?;
+    solution::solve(&mut four, &mut answer)?;
     Ok(answer)
 }
 

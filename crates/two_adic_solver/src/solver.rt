@@ -5,9 +5,11 @@ ghost use Rattle.two_adic_solver.specs.Solves.{Solves};
 ghost use Rattle.answers.specs.Said.{said_number};
 
 use crate::rooms;
+use crate::width::Width;
 use answers::Refusal;
 
-// The tests of a call, in the order 3, 8, 9, and the system where it passes them.
+// The tests of a call, in the order 3, 8, 9, and the system where it passes them. Apart from the call, so that what an answer solves is shown once and not
+// at each return.
 fn solve_checked(
     matrix: &mut [u64],
     right: &mut [u64],
@@ -42,7 +44,8 @@ fn solve_checked(
     if answer.len() != columns {
         return Err(Refusal::WrongLength);
     }
-    rooms::solve_fitting(matrix, right, columns, bitwidth, answer)
+    let width = Width { bits: bitwidth };
+    rooms::solve_fitting(matrix, right, columns, width, answer)
 }
 
 // Solves a system of equations modulo 2^bitwidth. The matrix has its rows one behind the other, each of `columns` entries; the row count is its length

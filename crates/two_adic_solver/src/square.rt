@@ -1,6 +1,6 @@
 // The system of the four by four solver: an array of arrays, and an array of right sides.
-ghost use Rattle.std.specs.Prelude.{◌≡◌, ℕ, ◌+◌, ◌-◌, ◌*◌, ◌/◌, ◌%◌, ◌^◌, ◌<◌, ◌≤◌, length, refl};
-ghost use Rattle.std.proofs.Common.{ap, sym, ◌∙◌};
+ghost use Rattle.std.specs.Prelude.{◌≡◌, ℕ, ◌+◌, ◌-◌, ◌*◌, ◌/◌, ◌%◌, ◌^◌, ◌<◌, ◌≤◌, false, length, slice_index_or, refl};
+ghost use Rattle.std.proofs.Common.{ap, sym, le_of_eq, ◌∙◌};
 ghost use Rattle.meaning.specs.Tables.{tabulate, at};
 ghost use Rattle.meaning.specs.Factorials.{twos_of};
 ghost use Rattle.meaning.specs.Inverses.{inverse};
@@ -11,17 +11,17 @@ ghost use Rattle.two_adic_solver.specs.Rows.{Subtracted};
 ghost use Rattle.two_adic_solver.specs.Shown.{cleared_row, Clearing};
 
 use crate::pivot::Pivot;
-use crate::rows;
 use crate::system::System;
+use crate::width::Width;
 
-// Every entry modulo 2^bitwidth.
-fn reduce_rows(matrix: &mut [[u64; 4]; 4], bitwidth: u32)
-    requires { Square matrix.old × (bitwidth ≤ 64) }
+// Every entry modulo 2^w.
+fn reduce_rows(matrix: &mut [[u64; 4]; 4], width: Width)
+    requires { Square matrix.old }
     ensures { Square matrix.new × (joined matrix.new
-        ≡ tabulate (length (joined matrix.old)) (λ n. at (joined matrix.old) n % 2 ^ bitwidth)) }
+        ≡ tabulate (length (joined matrix.old)) (λ n. at (joined matrix.old) n % 2 ^ width.bits)) }
 {
     for row in matrix.iter_mut() {
-        rows::reduce(row, bitwidth);
+        width.reduce(row);
     }
 }
 
@@ -32,70 +32,61 @@ fn subtract_row(
     target: usize,
     column: usize,
     q: u64,
-    bitwidth: u32,
+    width: Width,
 )
-    requires { Square matrix.old × (source < 4) × (target < 4) × (column < 4) × (bitwidth ≤ 64) }
-    ensures { Square matrix.new × Subtracted (2 ^ bitwidth) q (target * 4 + column) (4 - column)
+    requires { Square matrix.old × (source < 4) × (target < 4) × (column < 4) }
+    ensures { Square matrix.new × Subtracted (2 ^ width.bits) q (target * 4 + column) (4 - column)
         (λ k. at (joined matrix.old) (source * 4 + column + k)) (joined matrix.old) (joined matrix.new) }
 {
     // An index by hand: two rows of one array.
     for k in column..4 {
-        matrix[target][k] = rows::less(matrix[target][k], q, matrix[source][k], bitwidth);
+        matrix[target][k] = width.less(matrix[target][k], q, matrix[source][k]);
     }
 }
 
-// Clears the pivot's column in one row, unless it is used: the pivot row is subtracted as often as it takes, from that column on and in the right side.
-fn clear_row(matrix: &mut [[u64; 4]; 4], right: &mut [u64], used: bool, pivot: Pivot, row: usize)
-    requires square { Square matrix.old × (length right.old ≡ 4) }
-    requires places { (pivot.column < 4) × (pivot.row < 4) × (row < 4) }
-    ensures { Square matrix.new × ((s : State)
-        → Shows (length right.old) 4 s (joined matrix.old) right.old
-        → pivot.inverse ≡ inverse (s.entry pivot.row pivot.column / 2 ^ pivot.twos) (pivot.bitwidth - pivot.twos)
-        → ((j : ℕ) → s.entry row j < 2 ^ pivot.bitwidth) → ((j : ℕ) → j < pivot.column → s.entry pivot.row j ≡ 0)
-        → Shows (length right.old) 4
-        (cleared_row used pivot.bitwidth pivot.twos (s.entry pivot.row pivot.column) (s.entry pivot.row) pivot.column row s)
-        (joined matrix.new) right.new) }
-{
-    if used {
-        return;
-    }
-    let entry = matrix[row][pivot.column];
-    if entry == 0 {
-        return;
-    }
-    let q = pivot.multiplier(entry);
-    subtract_row(matrix, pivot.row, row, pivot.column, q, pivot.bitwidth);
-    right[row] = rows::less(right[row], q, right[pivot.row], pivot.bitwidth);
-}
-
-// Clears a column: its pivot row, `row`, which is marked as used, is subtracted from the rows that are not.
-fn clear_column(
-    matrix: &mut [[u64; 4]; 4],
-    right: &mut [u64],
-    used: &[bool],
-    column: usize,
-    row: usize,
-    bitwidth: u32,
-)
-    requires square { Square matrix.old × (length right.old ≡ 4) × (4 ≤ length used.now) × (column < 4) × (row < 4) }
-    requires pivot { (twos_of bitwidth (at (joined matrix.old) (row * 4 + column)) < bitwidth) × (bitwidth ≤ 64) }
-    ensures { Square matrix.new × ((s : State)
-        → Shows (length right.old) 4 s (joined matrix.old) right.old
-        → Clearing bitwidth (length right.old) column row used.now s
-        → Shows (length right.old) 4 (step bitwidth (length right.old) s column) (joined matrix.new) right.new) }
-{
-    let pivot = Pivot::new(matrix[row][column], row, column, bitwidth);
-    for target in 0..4 {
-        clear_row(matrix, right, used[target], pivot, target);
-    }
-}
-
-// Four equations in four unknowns, and the width.
-#[derive(Clone, Copy)]
+// Four equations in four unknowns, the marks of their rows, and the width.
+#[derive(Drop)]
 pub(crate) struct Four {
     pub entries: [[u64; 4]; 4],
     pub right: [u64; 4],
-    pub bitwidth: u32,
+    pub used: [bool; 4],
+    pub width: Width,
+    ghost square: { Square entries },
+    ghost sides: { (length right ≡ 4) × (length used ≡ 4) },
+}
+
+impl Four {
+    // Clears the pivot's column in one row, unless it is used: the pivot row is subtracted as often as it takes, from that column on and in the right side.
+    fn clear_row(&mut self, pivot: Pivot, row: usize)
+        requires { (pivot.column < 4) × (pivot.row < 4) × (row < 4) }
+        ensures kept { (self.new.used ≡ self.old.used) × (self.new.width.bits ≡ self.old.width.bits) }
+        ensures cleared { (s : State)
+            → Shows (length self.old.right) 4 s (joined self.old.entries) self.old.right
+            → pivot.inverse ≡ inverse (s.entry pivot.row pivot.column / 2 ^ pivot.twos) (pivot.width.bits - pivot.twos)
+            → ((j : ℕ) → s.entry row j < 2 ^ pivot.width.bits) → ((j : ℕ) → j < pivot.column → s.entry pivot.row j ≡ 0)
+            → Shows (length self.old.right) 4
+            (cleared_row (slice_index_or self.old.used row false) pivot.width.bits pivot.twos (s.entry pivot.row pivot.column) (s.entry pivot.row)
+            pivot.column row s)
+            (joined self.new.entries) self.new.right }
+    {
+        if self.used[row] {
+            return;
+        }
+        let entry = self.entries[row][pivot.column];
+        if entry == 0 {
+            return;
+        }
+        let q = pivot.multiplier(entry);
+        subtract_row(
+            &mut self.entries,
+            pivot.row,
+            row,
+            pivot.column,
+            q,
+            pivot.width,
+        );
+        self.right[row] = pivot.width.less(self.right[row], q, self.right[pivot.row]);
+    }
 }
 
 impl System for Four {
@@ -105,13 +96,13 @@ impl System for Four {
 
     ghost right = { λ f. f.right };
 
+    ghost used = { λ f. f.used };
+
     ghost columns = { λ _. 4 };
 
-    ghost width = { λ f. f.bitwidth };
+    ghost width = { λ f. f.width.bits };
 
-    ghost whole = { λ f. Square f.entries × (length f.right ≡ 4) × (f.bitwidth ≤ 64) };
-
-    ghost same = { λ f g. (length g.right ≡ length f.right) × (g.bitwidth ≡ f.bitwidth) };
+    ghost same = { λ f g. (length g.right ≡ length f.right) × (g.width.bits ≡ f.width.bits) };
 
     fn room() {}
 
@@ -119,12 +110,16 @@ impl System for Four {
         &self.right
     }
 
+    fn used(&self) -> &[bool] {
+        &self.used
+    }
+
     fn columns(&self) -> usize {
         4
     }
 
-    fn width(&self) -> u32 {
-        self.bitwidth
+    fn width(&self) -> Width {
+        self.width
     }
 
     fn entry(&self, row: usize, column: usize) -> u64 {
@@ -136,24 +131,21 @@ impl System for Four {
     }
 
     fn reduce(&mut self) {
-        reduce_rows(&mut self.entries, self.bitwidth);
-        rows::reduce(&mut self.right, self.bitwidth);
+        reduce_rows(&mut self.entries, self.width);
+        self.width.reduce(&mut self.right);
     }
 
-    fn clear_column(&mut self, used: &[bool], _room: &mut (), column: usize, row: usize) {
-        clear_column(
-            &mut self.entries,
-            &mut self.right,
-            used,
-            column,
-            row,
-            self.bitwidth,
-        );
+    fn clear_column(&mut self, _room: &mut (), column: usize, row: usize) {
+        self.used[row] = true;
+        let pivot = Pivot::new(self.entries[row][column], row, column, self.width);
+        for target in 0..4 {
+            self.clear_row(pivot, target);
+        }
     }
 
-    ghost whole_length = { λ f w. joined_length w.0 ∙ ap (◌* 4) (sym w.1) };
+    ghost whole = { λ f. joined_length f.square ∙ ap (◌* 4) (sym f.sides.0) };
 
-    ghost whole_width = { λ f w. w.2 };
+    ghost marks = { λ f. le_of_eq (f.sides.0 ∙ sym f.sides.1) };
 
     ghost same_refl = { λ f. (refl, refl) };
 

@@ -43,16 +43,15 @@ fn dot(row: &[u64], x: &[u64]) -> u64
 
 // What is left of the right side of a column's pivot row when the columns after it have the values in `answer`, modulo 2^w.
 fn rest_of<S: System>(system: &S, answer: &[u64], column: usize, row: usize) -> u64
-    requires { S.whole system.now × (length answer.now ≡ S.columns system.now) × (column < S.columns system.now) × (row < length (S.right system.now)) }
+    requires { (length answer.now ≡ S.columns system.now) × (column < S.columns system.now) × (row < length (S.right system.now)) }
     ensures { result ≡ rest_of (S.width system.now) (S.columns system.now) (S.entries system.now) (S.right system.now) answer.now row column }
 {
     let known = dot(system.behind(row, column), &answer[column + 1..]);
-    arith::mod_sub(system.right()[row], known, system.width())
+    arith::mod_sub(system.right()[row], known, system.width().bits)
 }
 
 // The value of a column, unless its pivot's power of two does not divide what is left of the right side. `answer` has its pivot row.
 fn solve_column<S: System>(system: &S, answer: &[u64], column: usize) -> Result<u64, Refusal>
-    requires whole { S.whole system.now }
     requires sizes { (length answer.now ≡ S.columns system.now) × (column < S.columns system.now) × (at answer.now column < length (S.right system.now)) }
     requires pivot { twos_of (S.width system.now) (at (S.entries system.now) (at answer.now column * S.columns system.now + column)) < S.width system.now }
     ensures refusal { IfErr result (λ r. r ≡ Refusal.NoAnswer) }
@@ -72,7 +71,7 @@ fn solve_column<S: System>(system: &S, answer: &[u64], column: usize) -> Result<
 
 // All columns, last column first: each reads its pivot row in `answer`, and puts its value there. It ends at the first that does not divide.
 pub(crate) fn substitute<S: System>(system: &S, answer: &mut [u64]) -> Result<(), Refusal>
-    requires whole { S.whole system.now × (length answer.old ≡ S.columns system.now) }
+    requires sizes { length answer.old ≡ S.columns system.now }
     requires by_index { (j : ℕ) → j < S.columns system.now → (at answer.old j < length (S.right system.now))
         × (twos_of (S.width system.now) (at (S.entries system.now) (at answer.old j * S.columns system.now + j)) < S.width system.now) }
     ensures refusal { IfErr result (λ r. r ≡ Refusal.NoAnswer) }

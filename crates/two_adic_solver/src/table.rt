@@ -1,50 +1,51 @@
-// The system of the bare solver: a lent table, with its rows one behind the other, and a lent right side.
-ghost use Rattle.std.specs.Prelude.{◌≡◌, ℕ, ◌+◌, ◌-◌, ◌*◌, ◌/◌, ◌%◌, ◌^◌, ◌<◌, ◌≤◌, length, refl};
+// The system of the bare solver: a lent table, with its rows one behind the other, and a lent right side. The functions on its parts take them one by one:
+// of a `&mut Table` each contract would also have to say that the lent tables, the marks and the sizes are still the same.
+ghost use Rattle.std.specs.Prelude.{◌≡◌, ℕ, ◌+◌, ◌-◌, ◌*◌, ◌/◌, ◌%◌, ◌^◌, ◌<◌, ◌≤◌, false, length, refl};
 ghost use Rattle.std.proofs.Common.{◌∙◌};
 ghost use Rattle.meaning.specs.Tables.{at};
 ghost use Rattle.meaning.specs.Factorials.{twos_of};
 ghost use Rattle.meaning.specs.Inverses.{inverse};
 ghost use Rattle.meaning.specs.Elimination.{State, step};
 ghost use Rattle.two_adic_solver.specs.ShownStates.{Shows};
+ghost use Rattle.two_adic_solver.specs.Rows.{Sizes};
 ghost use Rattle.two_adic_solver.specs.Shown.{cleared_row, stepped, Behind, Clearing, PivotPart};
 
 use crate::pivot::Pivot;
-use crate::rows;
 use crate::system::System;
+use crate::width::Width;
 
-// The entries and the right side, how many columns there are, and the width.
+// The entries, the right side and the marks of the used rows, how many columns there are, and the width.
 #[derive(Drop)]
 pub(crate) struct Table<'a> {
     pub entries: &'a mut [u64],
     pub right: &'a mut [u64],
+    pub used: &'a mut [bool],
     pub columns: usize,
-    pub bitwidth: u32,
+    pub width: Width,
+    ghost sizes: { Sizes columns entries.now right.now },
+    ghost marks: { length right.now ≤ length used.now },
 }
 
-// Subtracts a part of the pivot row from one row, unless it is used, as often as it takes to clear the entry in the pivot's column. `source` has the part,
-// from column `from` on; `side` is subtracted as often from the right side.
+// Subtracts a part of the pivot row from one row, as often as it takes to clear the entry in the pivot's column. `source` has the part, from column `from`
+// on; `side` is subtracted as often from the right side.
 fn clear_row(
     entries: &mut [u64],
     right: &mut [u64],
     source: &[u64],
     side: u64,
-    used: bool,
     columns: usize,
     pivot: Pivot,
     from: usize,
     row: usize,
 )
-    requires entries_len { (length entries.old ≡ length right.old * columns) × (length entries.old ≤ 65536) × (row < length right.old) }
+    requires sizes { Sizes columns entries.old right.old × (row < length right.old) }
     requires in_columns { (pivot.column < columns) × (from + length source.now ≤ columns) }
     ensures { (s : State) (e : ℕ) (part : ℕ → ℕ) → Shows (length right.old) columns s entries.old right.old
-        → PivotPart pivot.bitwidth columns from e pivot.twos pivot.inverse source.now side part
-        → ((j : ℕ) → s.entry row j < 2 ^ pivot.bitwidth)
+        → PivotPart pivot.width.bits columns from e pivot.twos pivot.inverse source.now side part
+        → ((j : ℕ) → s.entry row j < 2 ^ pivot.width.bits)
         → Shows (length right.old) columns
-        (cleared_row used pivot.bitwidth pivot.twos e part pivot.column row s) entries.new right.new }
+        (cleared_row false pivot.width.bits pivot.twos e part pivot.column row s) entries.new right.new }
 {
-    if used {
-        return;
-    }
     let start = row * columns;
     let entry = entries[start + pivot.column];
     if entry == 0 {
@@ -52,13 +53,9 @@ fn clear_row(
     }
     let q = pivot.multiplier(entry);
     let target = start + from;
-    rows::subtract_row(
-        &mut entries[target..target + source.len()],
-        source,
-        q,
-        pivot.bitwidth,
-    );
-    right[row] = rows::less(right[row], q, side, pivot.bitwidth);
+    let part = &mut entries[target..target + source.len()];
+    pivot.width.subtract_row(part, source, q);
+    right[row] = pivot.width.less(right[row], q, side);
 }
 
 // Subtracts the part of the pivot row between the columns `from` and `end` from the rows that are not used, and `side` from their right sides. The part is
@@ -74,29 +71,32 @@ fn clear_part(
     from: usize,
     end: usize,
 )
-    requires entries_len { (length entries.old ≡ length right.old * columns) × (length entries.old ≤ 65536) × (pivot.row < length right.old) }
+    requires sizes { Sizes columns entries.old right.old × (pivot.row < length right.old) }
     requires in_columns { (length right.old ≤ length used.now) × (pivot.column ≤ from) × (from < end) × (end ≤ columns) × (end - from ≤ length room.old) }
-    ensures { (s : State) (bound : ℕ) → Clearing pivot.bitwidth (length right.old) pivot.column pivot.row used.now s
-        → pivot.twos ≡ twos_of pivot.bitwidth (s.entry pivot.row pivot.column)
-        → pivot.inverse ≡ inverse (s.entry pivot.row pivot.column / 2 ^ pivot.twos) (pivot.bitwidth - pivot.twos)
-        → Behind pivot.bitwidth (length right.old) columns pivot.column pivot.row end side bound s entries.old right.old
-        → Shows (length right.old) columns (stepped pivot.bitwidth (length right.old) s pivot.column (λ i. from))
+    ensures { (s : State) (bound : ℕ) → Clearing pivot.width.bits (length right.old) pivot.column pivot.row used.now s
+        → pivot.twos ≡ twos_of pivot.width.bits (s.entry pivot.row pivot.column)
+        → pivot.inverse ≡ inverse (s.entry pivot.row pivot.column / 2 ^ pivot.twos) (pivot.width.bits - pivot.twos)
+        → Behind pivot.width.bits (length right.old) columns pivot.column pivot.row end side bound s entries.old right.old
+        → Shows (length right.old) columns (stepped pivot.width.bits (length right.old) s pivot.column (λ i. from))
         entries.new right.new }
 {
     let start = pivot.row * columns;
     tables::copy(&entries[start + from..start + end], &mut room[..end - from]);
     for row in 0..right.len() {
-        clear_row(
-            entries,
-            right,
-            &room[..end - from],
-            side,
-            used[row],
-            columns,
-            pivot,
-            from,
-            row,
-        );
+        if !used[row] {
+            let part = &room[..end - from];
+            clear_row(entries, right, part, side, columns, pivot, from, row);
+        }
+    }
+}
+
+// How many numbers there are up to the last that is not 0.
+fn span(list: &[u64]) -> usize
+    ensures { (result ≤ length list.now) × ((j : ℕ) → result ≤ j → at list.now j ≡ 0) }
+{
+    match list.iter().rposition(|n| *n != 0) {
+        Some(last) => last + 1,
+        None => 0,
     }
 }
 
@@ -122,19 +122,19 @@ fn clear_in_parts(
     columns: usize,
     column: usize,
     row: usize,
-    bitwidth: u32,
+    width: Width,
 )
-    requires entries_len { (length entries.old ≡ length right.old * columns) × (length entries.old ≤ 65536) × (row < length right.old) }
+    requires sizes { Sizes columns entries.old right.old × (row < length right.old) }
     requires in_columns { (length right.old ≤ length used.now) × (column < columns) × (0 < length room.old)
-        × (twos_of bitwidth (at entries.old (row * columns + column)) < bitwidth) × (bitwidth ≤ 64) }
+        × (twos_of width.bits (at entries.old (row * columns + column)) < width.bits) }
     ensures { (s : State) → Shows (length right.old) columns s entries.old right.old
-        → Clearing bitwidth (length right.old) column row used.now s
-        → Shows (length right.old) columns (step bitwidth (length right.old) s column) entries.new right.new }
+        → Clearing width.bits (length right.old) column row used.now s
+        → Shows (length right.old) columns (step width.bits (length right.old) s column) entries.new right.new }
 {
     let start = row * columns;
-    let pivot = Pivot::new(entries[start + column], row, column, bitwidth);
+    let pivot = Pivot::new(entries[start + column], row, column, width);
     let mut side = right[row];
-    let mut end = column + rows::span(&entries[start + column..start + columns]);
+    let mut end = column + span(&entries[start + column..start + columns]);
     // An end by hand: each part ends where the one before it began.
     while column < end {
         let from = part_start(column, end, room.len());
@@ -152,14 +152,14 @@ impl System for Table<'_> {
 
     ghost right = { λ t. t.right.now };
 
+    ghost used = { λ t. t.used.now };
+
     ghost columns = { λ t. t.columns };
 
-    ghost width = { λ t. t.bitwidth };
-
-    ghost whole = { λ t. (length t.entries.now ≡ length t.right.now * t.columns) × (length t.entries.now ≤ 65536) × (t.bitwidth ≤ 64) };
+    ghost width = { λ t. t.width.bits };
 
     ghost same = { λ t u. (u.entries.ghost_name ≡ t.entries.ghost_name) × (u.right.ghost_name ≡ t.right.ghost_name)
-        × (length u.right.now ≡ length t.right.now) × (u.columns ≡ t.columns) × (u.bitwidth ≡ t.bitwidth) };
+        × (length u.right.now ≡ length t.right.now) × (u.columns ≡ t.columns) × (u.width.bits ≡ t.width.bits) };
 
     fn room() -> [u64; 256] {
         [0; 256]
@@ -169,12 +169,16 @@ impl System for Table<'_> {
         self.right
     }
 
+    fn used(&self) -> &[bool] {
+        self.used
+    }
+
     fn columns(&self) -> usize {
         self.columns
     }
 
-    fn width(&self) -> u32 {
-        self.bitwidth
+    fn width(&self) -> Width {
+        self.width
     }
 
     fn entry(&self, row: usize, column: usize) -> u64 {
@@ -187,11 +191,13 @@ impl System for Table<'_> {
     }
 
     fn reduce(&mut self) {
-        rows::reduce(self.entries, self.bitwidth);
-        rows::reduce(self.right, self.bitwidth);
+        self.width.reduce(self.entries);
+        self.width.reduce(self.right);
     }
 
-    fn clear_column(&mut self, used: &[bool], room: &mut [u64; 256], column: usize, row: usize) {
+    fn clear_column(&mut self, room: &mut [u64; 256], column: usize, row: usize) {
+        let used = &mut *self.used;
+        used[row] = true;
         clear_in_parts(
             self.entries,
             self.right,
@@ -200,13 +206,13 @@ impl System for Table<'_> {
             self.columns,
             column,
             row,
-            self.bitwidth,
+            self.width,
         );
     }
 
-    ghost whole_length = { λ t w. w.0 };
+    ghost whole = { λ t. t.sizes.0 };
 
-    ghost whole_width = { λ t w. w.2 };
+    ghost marks = { λ t. t.marks };
 
     ghost same_refl = { λ t. (refl, refl, refl, refl, refl) };
 

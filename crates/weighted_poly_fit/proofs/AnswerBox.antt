@@ -1,16 +1,8 @@
 -- The box of the answer, column by column: the cells of the columns done have their coefficients, all others 0.
-use mathlib.Core.Path.{◌≡◌, refl, sym, ap, ap₂, ◌∙◌}
-use mathlib.Core.Bool.{Bool, true, false, cond}
-use mathlib.Core.List.{List, []}
-use Prim.Native.Nat.{ℕ, suc, ◌+◌, ◌*◌, ◌-◌, ◌%◌, ◌≤◌, ◌<◌, max, zero-le}
-use native.Mathlib.Nat.{mul-le-mul_right, not-suc-le-zero}
-use native.Mathlib.Numerals.{add-one}
-use native.Mathlib.Decide.{dec_le}
-use native.Mathlib.Omega.{arith}
+use Rattle.std.specs.Prelude.{◌≡◌, refl, Bool, true, false, cond, List, [], ℕ, suc, ◌+◌, ◌*◌, ◌-◌, ◌%◌, ◌≤◌, ◌<◌, max, leb, eqb, length, take, drop, set, get_or}
+use Rattle.std.proofs.Common.{sym, ap, ap₂, ◌∙◌, zero-le, mul-le-mul_right, not-suc-le-zero, add-one, arith, length-set, get_or-set_same, get_or-set_other}
+use Rattle.std.proofs.Math.Decide.{dec_le}
 use borrow.Author.Tests.{leb-true, leb-false, eqb-true, eqb-false}
-use lib.Dec.{leb, eqb}
-use lib.ListN.{length, take, drop, set, get_or, length-set}
-use lib.Seq.{get_or-set_same, get_or-set_other}
 use Rattle.meaning.specs.Tables.{at, tabulate}
 use Rattle.meaning.specs.Boxes.{cells, cell, digits, Within}
 use Rattle.meaning.specs.Values.{bound}

@@ -1,12 +1,7 @@
 -- The loop over the total degrees: the columns of a lower degree than this are done.
-use mathlib.Core.Path.{◌≡◌, refl, sym, ap, ap₂, ◌∙◌}
-use mathlib.Core.List.{List, [], ◌++◌, append-nil}
-use Prim.Native.Nat.{ℕ, suc, ◌+◌, ◌*◌, ◌-◌, ◌≤◌, ◌<◌, zero-le}
-use native.Mathlib.Nat.{zero-add}
-use native.Mathlib.Numerals.{add-one}
-use native.Mathlib.Omega.{arith}
-use lib.ListN.{length, take, drop, length-append}
-use lib.Seq.{drop-length}
+use Rattle.std.specs.Prelude.{◌≡◌, refl, List, [], ◌++◌, ℕ, suc, ◌+◌, ◌*◌, ◌-◌, ◌≤◌, ◌<◌, length, take, drop}
+use Rattle.std.proofs.Common.{sym, ap, ap₂, ◌∙◌, append-nil, zero-le, zero-add, add-one, arith, length-append}
+use Rattle.std.proofs.Math.Seq.{drop-length}
 use Rattle.meaning.specs.Elimination.{joined}
 use Rattle.meaning.specs.Fit.{columns}
 use Rattle.theory.specs.ColumnListing.{exactly}
@@ -61,7 +56,15 @@ module _ {t₀ current₀ ds : List ℕ} {most : ℕ} where
 
     pub degrees_room : r ≤ most → next + length (listing (exponents_before current ds) ds r) ≤ length t
     degrees_room h =
-        omega (arith, enough (r + 1) (omega arith), ap length one_more, length-append (spread [] r (exactly ds)) (listing [] ds r), ap length block, d.end, degrees_same)
+        omega (
+          arith,
+          enough (r + 1) (omega arith),
+          ap length one_more,
+          length-append (spread [] r (exactly ds)) (listing [] ds r),
+          ap length block,
+          d.end,
+          degrees_same,
+        )
 
     -- one degree more
     pub degrees_next : r ≤ most → (t' current' : List ℕ) (n : ℕ) → length current' ≡ length current

@@ -1,21 +1,16 @@
 -- One exponent list: its sums, its coefficient and its cell number, one variable after the other.
-use mathlib.Core.Path.{◌≡◌, refl, sym, ap, ap₂, ◌∙◌}
-use mathlib.Core.List.{List, [], ◌∷◌}
-use Prim.Native.Nat.{ℕ, zero, suc, ◌+◌, ◌*◌, ◌-◌, ◌%◌, ◌^◌, ◌≤◌, ◌<◌, min}
-use native.Mathlib.Nat.{le_refl, lt_of_lt_of_le, mod-one}
-use native.Mathlib.Numerals.{add-one}
-use native.Mathlib.Omega.{arith}
-use lib.Bits.{bit_and}
-use lib.ListN.{length, drop}
-use lib.Seq.{drop-cons, drop-length}
+use Rattle.std.specs.Prelude.{◌≡◌, refl, List, [], ◌∷◌, ℕ, zero, suc, ◌+◌, ◌*◌, ◌-◌, ◌%◌, ◌^◌, ◌≤◌, ◌<◌, min, bit_and, length, drop}
+use Rattle.std.proofs.Common.{sym, ap, ap₂, subst, ◌∙◌, le_refl, lt_of_lt_of_le, add-one, arith, drop-cons}
+use Rattle.std.proofs.Math.Nat.{mod-one}
+use Rattle.std.proofs.Math.Seq.{drop-length}
 use Rattle.std.specs.List.{sum_by}
 use Rattle.std.proofs.lemmas.List.Sums.{sum_by-cons}
 use Rattle.meaning.specs.Tables.{at}
 use Rattle.meaning.specs.Factorials.{factorial, twos}
-use Rattle.meaning.specs.Boxes.{cells, cell, Within, none, next}
+use Rattle.meaning.specs.Boxes.{cells, cell, digits, Within, none, next}
 use Rattle.meaning.specs.Values.{weight, bound}
 use Rattle.meaning.specs.Fit.{total}
-use Rattle.theory.specs.Boxes.{cell-lt, length-within}
+use Rattle.theory.specs.Boxes.{cell-lt, digits-within, length-within}
 use Rattle.theory.specs.Words.{masked_low}
 use Rattle.theory.specs.Twos.{legendre}
 
@@ -54,6 +49,10 @@ unfolding bound
 reduced_some v w es t m e n f = ap (bit_and v) f ∙ masked_low v (w - t) (omega arith) ∙ ap (λ (k : ℕ). v % 2 ^ (w - k)) e
 
 -- ---- the cell number
+
+-- exponents that are those of a cell of the box
+pub within_cell : {ds es : List ℕ} → digits ds (cell ds es) ≡ es → Within ds es
+within_cell {ds} {es} e = subst (Within ds) e (digits-within ds (cell ds es))
 
 within-drop : {ds es : List ℕ} → Within ds es → (i : ℕ) → Within (drop i ds) (drop i es)
 within-drop w zero = w

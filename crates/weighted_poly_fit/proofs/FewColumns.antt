@@ -1,11 +1,8 @@
 -- The columns of one variable are its exponents in order; of two variables or more there are so many that the products of all coordinates have a small table.
-use mathlib.Core.Path.{◌≡◌, sym, ap, subst, ◌∙◌}
-use mathlib.Core.List.{List, [], ◌∷◌}
-use Prim.Native.Nat.{ℕ, zero, suc, ◌+◌, ◌-◌, ◌*◌, ◌≤◌, ◌<◌, min, zero-le}
-use native.Mathlib.Nat.{not-suc-le-zero, le_of_suc-le-suc, le_trans, le_of_eq, le_refl, lt_irrefl, lt_of_not-le, mul-le-mul, suc-sub-suc, zero-lt-suc}
-use native.Mathlib.Decide.{dec_le}
-use native.Mathlib.Omega.{arith}
-use lib.ListN.{length, replicate}
+use Rattle.std.specs.Prelude.{◌≡◌, List, [], ◌∷◌, ℕ, zero, suc, ◌+◌, ◌-◌, ◌*◌, ◌≤◌, ◌<◌, min, length, replicate}
+use Rattle.std.proofs.Common.{sym, ap, subst, ◌∙◌, zero-le, not-suc-le-zero, le_of_suc-le-suc, le_trans, le_of_eq, le_refl, lt_irrefl, lt_of_not-le, mul-le-mul, zero-lt-suc, arith}
+use Rattle.std.proofs.Math.Nat.{suc-sub-suc}
+use Rattle.std.proofs.Math.Decide.{dec_le}
 use Rattle.meaning.specs.Tables.{at}
 use Rattle.meaning.specs.Sums.{sum}
 use Rattle.meaning.specs.Boxes.{cells, Within, none, next}

@@ -1,24 +1,17 @@
 -- The solved system as the answer of the fit: number, box and degree used.
-use mathlib.Core.Path.{◌≡◌, refl, sym, ap, ap₂, ◌∙◌}
-use mathlib.Core.Bool.{Bool, true, false, ◌&&◌, ◌||◌, cond, false≢true}
-use mathlib.Core.List.{List, [], ◌∷◌}
-use Prim.Native.Nat.{ℕ, suc, pred, ◌*◌, ◌%◌, ◌/◌, ◌<◌, suc-le-suc}
-use native.Mathlib.Nat.{zero-lt-suc, suc-ne-zero, mul-div_cancel}
-use native.Mathlib.Omega.{arith}
+use Rattle.std.proofs.Common.{sym, ap, ap₂, ◌∙◌, suc-le-suc, zero-lt-suc, suc-ne-zero, mul-div_cancel, arith}
+use Rattle.std.proofs.Math.Bool.{false≢true}
 use borrow.Author.Tests.{lt-ltb, le-ltb, eq-eqb}
-use lib.Dec.{ltb, eqb}
-use lib.ListN.{length}
 use Rattle.meaning.specs.Tables.{at, tabulate}
 use Rattle.meaning.specs.Boxes.{cells, digits}
 use Rattle.meaning.specs.Values.{bound}
-use Rattle.meaning.specs.Replies.{Reply, accepted, refused}
+use Rattle.meaning.specs.Replies.{accepted}
 use Rattle.meaning.specs.Settings.{first}
 use Rattle.meaning.specs.Calls.{same_list, reply, left}
-use Rattle.meaning.specs.Elimination.{State, system, eliminated, substituted, succeeds}
-use Rattle.meaning.specs.Elimination.{solver_rows, solver_cause, solver_state, solver_succeeds, solver_number, solver_answer}
+use Rattle.meaning.specs.Elimination.{State, system, eliminated, substituted, succeeds, solver_rows, solver_cause, solver_state, solver_succeeds, solver_number, solver_answer}
 use Rattle.meaning.specs.Fit.{value_of, fit_box_of, degree_used_of}
 use Rattle.theory.specs.Tables.{at-tabulate, tabulate_cong}
-use Rattle.std.specs.Prelude.{⊤, Result, Ok, Err}
+use Rattle.std.specs.Prelude.{◌≡◌, refl, Bool, true, false, ◌&&◌, ◌||◌, cond, List, [], ◌∷◌, ℕ, suc, pred, ◌*◌, ◌%◌, ◌/◌, ◌<◌, ltb, eqb, length, ⊤, Result, Ok, Err}
 use Rattle.std.specs.Result.{is_ok}
 use Rattle.answers.specs.declared.Refusal.{Refusal}
 use Rattle.answers.specs.Said.{code, said_number}
@@ -136,13 +129,4 @@ module _ (w rows cols : ℕ) (ds : List ℕ) (fs : List (List ℕ)) (A : ℕ →
         record {
           says = ap accepted (p ∙ ap (degree_used_of ds) same) ∙ ap (λ (t : Bool). reply (cond t 0 10) (degree_used_of ds found)) success;
           leaves = q ∙ same ∙ ap (λ (t : Bool). cond t found (tabulate (cells ds) (λ n. 0))) success;
-        }
-
-    pub answered_refused : b ≡ false → (out : List ℕ) (r : Reply) → r ≡ refused 10 → out ≡ tabulate (cells ds) (λ n. 0)
-        → Answered w rows cols ds fs A out r
-    answered_refused e out r p q =
-        let success = sym e ∙ k.success in
-        record {
-          says = p ∙ ap (λ (t : Bool). reply (cond t 0 10) (degree_used_of ds found)) success;
-          leaves = q ∙ ap (λ (t : Bool). cond t found (tabulate (cells ds) (λ n. 0))) success;
         }

@@ -1,20 +1,14 @@
 -- The call of the fit in its parts: causes, reply and tables.
-use mathlib.Core.Path.{◌≡◌, refl, sym, ap, ap₂, subst, ◌∙◌}
-use mathlib.Core.Bool.{Bool, true, false, ◌&&◌, cond, false≢true}
-use mathlib.Core.List.{List}
-use Prim.Native.Nat.{ℕ, zero, suc, ◌+◌, ◌*◌, ◌≤◌, ◌<◌}
-use native.Mathlib.Nat.{mul-le-mul, le_trans, le_of_eq, lt_irrefl}
-use native.Mathlib.Omega.{arith}
+use Rattle.std.specs.Prelude.{◌≡◌, refl, Bool, true, false, ◌&&◌, cond, List, ℕ, zero, suc, ◌+◌, ◌*◌, ◌≤◌, ◌<◌, ltb, eqb, length, replicate}
+use Rattle.std.proofs.Common.{sym, ap, ap₂, subst, ◌∙◌, mul-le-mul, le_trans, le_of_eq, lt_irrefl, arith}
+use Rattle.std.proofs.Math.Bool.{false≢true}
 use borrow.Author.Tests.{ltb-false, ltb-true, eqb-true}
-use lib.Dec.{ltb, eqb}
-use lib.ListN.{length, replicate}
 use Rattle.meaning.specs.Tables.{at, tabulate}
 use Rattle.meaning.specs.Boxes.{cells}
 use Rattle.meaning.specs.Replies.{Reply, refused}
 use Rattle.meaning.specs.Settings.{first}
 use Rattle.meaning.specs.Calls.{reply, left}
-use Rattle.meaning.specs.Fit.{columns, fit_system, degree_used_of, Fit, fit_rows, fit_columns_of, fit_settings_number, fit_lengths}
-use Rattle.meaning.specs.Fit.{fit_cause, fit_state, fit_succeeds, fit_answer, fit_number, fit_reply, fit_out, fit_matrix, fit_right}
+use Rattle.meaning.specs.Fit.{columns, fit_system, degree_used_of, Fit, fit_rows, fit_columns_of, fit_settings_number, fit_lengths, fit_cause, fit_state, fit_succeeds, fit_answer, fit_number, fit_reply, fit_out, fit_matrix, fit_right}
 use Rattle.answers.specs.declared.Refusal.{Refusal}
 use Rattle.answers.specs.Said.{code}
 use Rattle.answers.specs.Laws.{reply-code, first_code, left-code}

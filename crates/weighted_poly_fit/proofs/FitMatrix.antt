@@ -1,13 +1,9 @@
 -- The matrix as it is filled is the system of the fit, and the exponents of the columns are as low as the degrees.
-use mathlib.Core.Path.{◌≡◌, sym, ap, ◌∙◌}
-use mathlib.Core.Bool.{Bool, cond}
-use mathlib.Core.List.{List, [], ◌∷◌, ◌++◌}
-use Prim.Native.Nat.{ℕ, zero, suc, ◌+◌, ◌*◌, ◌%◌, ◌^◌, ◌<◌, suc-le-suc}
-use native.Mathlib.Nat.{lt_of_le_of_lt, lt_of_lt_of_le, le_of_eq, mul-one, suc-ne-zero, suc_inj, zero-mul, le_of_suc-le-suc, not-suc-le-zero, zero-lt-suc}
-use native.Mathlib.Omega.{arith}
+use Rattle.std.specs.Prelude.{◌≡◌, Bool, cond, List, [], ◌∷◌, ◌++◌, ℕ, zero, suc, ◌+◌, ◌*◌, ◌%◌, ◌^◌, ◌<◌, length, take, drop, get_or}
+use Rattle.std.proofs.Common.{sym, ap, ◌∙◌, suc-le-suc, lt_of_le_of_lt, lt_of_lt_of_le, le_of_eq, mul-one, suc-ne-zero, zero-mul, le_of_suc-le-suc, not-suc-le-zero, zero-lt-suc, arith, take_at}
+use Rattle.std.proofs.Math.Nat.{suc_inj}
+use Rattle.std.proofs.Math.Seq.{drop-append-add}
 use borrow.Author.Tests.{lt-ltb}
-use lib.ListN.{length, take, drop, get_or}
-use lib.Seq.{take_at, drop-append-add}
 use Rattle.meaning.specs.Tables.{at}
 use Rattle.meaning.specs.Factorials.{falling}
 use Rattle.meaning.specs.Boxes.{digits, Within}

@@ -1,10 +1,6 @@
 -- The listing of the columns block by block: by the exponents of one variable, and by total degrees.
-use mathlib.Core.Path.{◌≡◌, refl, sym, ap, ap₂, ◌∙◌}
-use mathlib.Core.List.{List, [], ◌∷◌, ◌++◌, append_assoc, append-nil, map}
-use Prim.Native.Nat.{ℕ, zero, suc, ◌+◌, ◌*◌, ◌-◌, ◌≤◌, min}
-use native.Mathlib.Nat.{le_of_eq}
-use native.Mathlib.Omega.{arith}
-use lib.ListN.{length, get_or, length-append}
+use Rattle.std.specs.Prelude.{◌≡◌, refl, List, [], ◌∷◌, ◌++◌, map, ℕ, zero, suc, ◌+◌, ◌*◌, ◌-◌, ◌≤◌, min, length, get_or}
+use Rattle.std.proofs.Common.{sym, ap, ap₂, ◌∙◌, append_assoc, append-nil, le_of_eq, arith, length-append}
 use Rattle.meaning.specs.Elimination.{joined}
 use Rattle.meaning.specs.Fit.{columns}
 use Rattle.theory.specs.Boxes.{length-within}
@@ -53,7 +49,13 @@ module _ (p : List ℕ) (f : ℕ → List (List ℕ)) where
           le_of_eq (ap (λ (i : ℕ). length (spread p i f)) d)
       go (suc k) n e =
           let d : suc (m + k) ≡ n = omega arith in
-          omega (arith, go k (m + k) refl, ap length (spread_more (m + k)), length-append (spread p (m + k) f) (joined (map (p ++◌) (f (m + k)))), ap (λ (i : ℕ). length (spread p i f)) d)
+          omega (
+            arith,
+            go k (m + k) refl,
+            ap length (spread_more (m + k)),
+            length-append (spread p (m + k) f) (joined (map (p ++◌) (f (m + k)))),
+            ap (λ (i : ℕ). length (spread p i f)) d,
+          )
 
 -- an exponent of the first of the remaining variables
 abbrev pub headed : List ℕ → ℕ → ℕ → List (List ℕ)
@@ -66,7 +68,9 @@ map-headed p e (x ∷ xs) = ap₂ ◌∷◌ (sym (append_assoc p (e ∷ []) x)) 
 module _ (p : List ℕ) (d : ℕ) (ds : List ℕ) (left : ℕ) where
   pub spread-headed : (e : ℕ) → spread p (suc e) (headed ds left) ≡ spread p e (headed ds left) ++ listing (p ++ (e ∷ [])) ds (left - e)
   unfolding listing
-  spread-headed e = spread_more p (headed ds left) e ∙ ap (λ (l : List (List ℕ)). spread p e (headed ds left) ++ joined l) (map-headed p e (exactly ds (left - e)))
+  spread-headed e =
+      spread_more p (headed ds left) e
+      ∙ ap (λ (l : List (List ℕ)). spread p e (headed ds left) ++ joined l) (map-headed p e (exactly ds (left - e)))
 
   pub listing-cons : spread p (suc (min d left)) (headed ds left) ≡ listing p (d ∷ ds) left
   unfolding spread listing exactly

@@ -1,16 +1,9 @@
 -- The columns of the fit's matrix, one after the other, and each column by the sub-boxes of the last variable of the grid.
-use mathlib.Core.Path.{◌≡◌, refl, sym, ap, ap₂, subst, ◌∙◌}
-use mathlib.Core.Logic.{◌⊎◌, inl, inr}
-use mathlib.Core.List.{List, [], ◌∷◌}
-use Prim.Native.Nat.{ℕ, suc, ◌+◌, ◌*◌, ◌-◌, ◌%◌, ◌^◌, ◌≤◌, ◌<◌, min, zero-le}
-use native.Mathlib.Nat.{mul_comm, one-mul, mul_assoc, mul-one, mul-le-mul_right, lt_of_not-le, lt_irrefl, ne_of_lt, ne_of_gt, zero-mod, zero-mul, not-suc-le-zero, eq-or-lt_of_le, le_of_suc-le-suc, suc-ne-zero, suc_inj, zero-lt-suc}
-use native.Mathlib.Numerals.{add-one}
-use native.Mathlib.Decide.{dec_le}
-use native.Mathlib.Omega.{arith}
-use lib.Arith.{digits_lt, digits_mod}
-use lib.Bits.{bit_and}
-use lib.ListN.{length, take, drop, set, length-set}
-use lib.Seq.{get_or-set_same, get_or-set_other, get_or-take, get_or-drop}
+use Rattle.std.specs.Prelude.{◌≡◌, refl, ◌⊎◌, List, [], ◌∷◌, ℕ, suc, ◌+◌, ◌*◌, ◌-◌, ◌%◌, ◌^◌, ◌≤◌, ◌<◌, min, bit_and, length, take, drop, set}
+use Rattle.std.proofs.Common.{sym, ap, ap₂, subst, ◌∙◌, inl, inr, zero-le, mul_comm, one-mul, mul_assoc, mul-one, mul-le-mul_right, lt_of_not-le, lt_irrefl, ne_of_lt, ne_of_gt, zero-mul, not-suc-le-zero, eq-or-lt_of_le, le_of_suc-le-suc, suc-ne-zero, zero-lt-suc, add-one, arith, length-set, get_or-set_same, get_or-set_other, get_or-take, get_or-drop}
+use Rattle.std.proofs.Math.Nat.{zero-mod, suc_inj}
+use Rattle.std.proofs.Math.Decide.{dec_le}
+use Rattle.std.proofs.Math.Arith.{digits_lt, digits_mod}
 use Rattle.meaning.specs.Tables.{at, tabulate}
 use Rattle.meaning.specs.Factorials.{falling}
 use Rattle.meaning.specs.Boxes.{cells, digits}
@@ -311,7 +304,10 @@ one-weighed w gs columns ws one f i c h l =
     let k : length gs - 1 < length gs = omega arith in
     let p : c * length gs + (length gs - 1) ≡ c = omega (arith, ap (c *◌) one) in
     let e : at es (length gs - 1) ≡ c =
-    get_or-take (length gs) (drop (c * length gs) columns) (length gs - 1) 0 k ∙ get_or-drop (c * length gs) columns (length gs - 1) 0 ∙ ap (at columns) p ∙ f c l in
+    get_or-take (length gs) (drop (c * length gs) columns) (length gs - 1) 0 k
+    ∙ get_or-drop (c * length gs) columns (length gs - 1) 0
+    ∙ ap (at columns) p
+    ∙ f c l in
     ap (λ (n : ℕ). (at ws i * n) % 2 ^ w) (sym (one-mul (fallen w i c)))
     ∙ ap (λ (n : ℕ). (at ws i * (1 * fallen w i n)) % 2 ^ w) (sym e)
     ∙ entry-line w 1 gs es ws one i h

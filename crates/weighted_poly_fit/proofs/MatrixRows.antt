@@ -1,14 +1,10 @@
 -- Rows of falling factorials: where they are zero, and each times its weight.
-use mathlib.Core.Path.{◌≡◌, sym, ap, subst, ◌∙◌}
-use mathlib.Core.List.{List}
-use Prim.Native.Nat.{ℕ, ◌+◌, ◌*◌, ◌-◌, ◌%◌, ◌^◌, ◌≤◌, ◌<◌, min}
-use native.Mathlib.Nat.{mul_comm, zero-mod, mul-zero, lt_of_not-le}
-use native.Mathlib.Decide.{dec_le}
-use native.Mathlib.Omega.{arith}
-use lib.Bits.{bit_and}
-use lib.ListN.{length, set}
+use Rattle.std.specs.Prelude.{◌≡◌, List, ℕ, ◌+◌, ◌*◌, ◌-◌, ◌%◌, ◌^◌, ◌≤◌, ◌<◌, min, bit_and, length, set}
+use Rattle.std.proofs.Common.{sym, ap, subst, ◌∙◌, mul_comm, mul-zero, lt_of_not-le, arith}
+use Rattle.std.proofs.Math.Nat.{zero-mod}
+use Rattle.std.proofs.Math.Decide.{dec_le}
 use Rattle.meaning.specs.Tables.{at, tabulate}
-use Rattle.theory.specs.Tables.{at-tabulate, eq-tabulate, Filled, filled_start, filled_step, filled_done}
+use Rattle.theory.specs.Tables.{at-tabulate, eq-tabulate, Filled, filled_step, filled_done}
 use Rattle.theory.specs.FilledRows.{Rows}
 use Rattle.theory.specs.MatrixTables.{flat, flat-entry}
 use Rattle.theory.specs.Words.{masked_to}
@@ -30,9 +26,6 @@ pub record Weighed (row₀ : List ℕ) (weight w mask : ℕ) (row : List ℕ) (e
   pub filled : Filled (λ k. (weight * at row₀ k) % 2 ^ w) row₀ row e
 
 module _ {row₀ : List ℕ} {weight w mask : ℕ} where
-  pub weighed-start : w ≤ 64 → mask ≡ 2 ^ min w 64 - 1 → Weighed row₀ weight w mask row₀ 0
-  weighed-start h e = record { narrow = h; masks = e; filled = filled_start _ row₀ }
-
   module _ {row : List ℕ} {e : ℕ} (r : Weighed row₀ weight w mask row e) where
     pub weighed_next : e < length row → (v : ℕ) → v ≡ (at row e * weight) % 2 ^ 64 → Weighed row₀ weight w mask (set row e (bit_and v mask)) (e + 1)
     weighed_next h v q =

@@ -1,10 +1,7 @@
 -- A list pasted into a table, and another behind it.
-use mathlib.Core.Path.{◌≡◌, sym, ap, ap₂, ◌∙◌}
-use mathlib.Core.List.{List, [], ◌++◌, append_assoc}
-use Prim.Native.Nat.{ℕ, ◌+◌, ◌-◌, ◌≤◌}
-use native.Mathlib.Omega.{arith}
-use lib.ListN.{length, take, drop, length-append, length-take, length-drop}
-use lib.Seq.{length-take-le, take_at, drop-append-add, drop-drop, paste-zero}
+use Rattle.std.specs.Prelude.{◌≡◌, List, [], ◌++◌, ℕ, ◌+◌, ◌-◌, ◌≤◌, length, take, drop}
+use Rattle.std.proofs.Common.{sym, ap, ap₂, ◌∙◌, append_assoc, arith, length-append, length-take, length-drop, length-take-le, take_at, drop-drop}
+use Rattle.std.proofs.Math.Seq.{drop-append-add, paste-zero}
 use Rattle.theory.specs.Parts.{put}
 use Rattle.weighted_poly_fit.specs.Listing.{pasted}
 

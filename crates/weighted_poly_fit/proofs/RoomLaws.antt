@@ -1,13 +1,7 @@
 -- The room of a fit: how much is enough, and what its parts hold.
-use mathlib.Core.Path.{◌≡◌, ap, ap₂, ◌∙◌}
-use mathlib.Core.Bool.{Bool, cond}
-use Prim.Native.Nat.{ℕ, zero, suc, ◌+◌, ◌*◌, ◌≤◌, ◌<◌}
-use native.Mathlib.Nat.{le_trans, le_of_eq, lt_irrefl, not-suc-le-zero}
-use native.Mathlib.Numerals.{add-one}
-use native.Mathlib.Omega.{arith}
+use Rattle.std.specs.Prelude.{◌≡◌, Bool, cond, ℕ, zero, suc, ◌+◌, ◌*◌, ◌≤◌, ◌<◌, eqb, length, replicate}
+use Rattle.std.proofs.Common.{ap, ap₂, ◌∙◌, le_trans, le_of_eq, lt_irrefl, not-suc-le-zero, add-one, arith}
 use borrow.Author.Tests.{ne_eqb}
-use lib.Dec.{eqb}
-use lib.ListN.{length, replicate}
 use Rattle.meaning.specs.Boxes.{cells}
 use Rattle.meaning.specs.Fit.{columns}
 use Rattle.weighted_poly_fit.proofs.FewColumns.{products_few}

@@ -1,12 +1,7 @@
 -- The loop over the exponents of the first of the remaining variables: those below e are done.
-use mathlib.Core.Path.{◌≡◌, refl, sym, ap, ap₂, ◌∙◌}
-use mathlib.Core.List.{List, [], ◌∷◌, ◌++◌}
-use Prim.Native.Nat.{ℕ, suc, ◌+◌, ◌-◌, ◌≤◌, ◌<◌, min, zero-le}
-use native.Mathlib.Nat.{add-zero, suc-ne-zero, le_of_eq}
-use native.Mathlib.Numerals.{add-one}
-use native.Mathlib.Omega.{arith}
-use lib.ListN.{length, take, drop, set, length-append, length-drop, length-set}
-use lib.Seq.{drop-cons, take-suc-set, take-take, take_all, take_at, take-length, length-take-le}
+use Rattle.std.specs.Prelude.{◌≡◌, refl, List, [], ◌∷◌, ◌++◌, ℕ, suc, ◌+◌, ◌-◌, ◌≤◌, ◌<◌, min, length, take, drop, set}
+use Rattle.std.proofs.Common.{sym, ap, ap₂, ◌∙◌, zero-le, add-zero, suc-ne-zero, le_of_eq, add-one, arith, length-append, length-drop, length-set, drop-cons, take-suc-set, take-take, take_all, take_at, length-take-le}
+use Rattle.std.proofs.Math.Seq.{take-length}
 use Rattle.meaning.specs.Tables.{at}
 use Rattle.weighted_poly_fit.specs.Listing.{pasted, listing, exponents_before, Listed}
 use Rattle.weighted_poly_fit.proofs.Pasted.{pasted_none, pasted_more, length-pasted}

@@ -1,8 +1,7 @@
 -- What holds of an accepted fit follows from the two equations of its contract: where the number is 0 the elimination succeeds, the output is its answer and
 -- the degree is that answer's.
-use Rattle.std.specs.Prelude.{◌≡◌, true, List, length}
+use Rattle.std.specs.Prelude.{◌≡◌, true, List, length, ℕ, ◌*◌, ◌%◌, ◌^◌, min}
 use Rattle.std.proofs.Common.{sym, ap, ◌∙◌, inl, inr, ⊎_elim}
-use Prim.Native.Nat.{ℕ, ◌*◌, ◌%◌, ◌^◌, min}
 use Rattle.std.proofs.lemmas.List.{length-replicate}
 use Rattle.meaning.specs.Tables.{at}
 use Rattle.meaning.specs.Boxes.{digits}

@@ -1,5 +1,5 @@
 // The weighted fit: coefficients of falling factorials whose value at each grid point, times the weight there, is the target there, modulo 2^w.
-ghost use Rattle.std.specs.Prelude.{◌≡◌, cond, ◌+◌, ◌*◌, eqb, length};
+ghost use Rattle.std.specs.Prelude.{◌≡◌, cond, ◌+◌, ◌*◌, ◌≤◌, eqb};
 ghost use Rattle.meaning.specs.Fit.{fit_of, fit_lengths};
 ghost use Rattle.settings.specs.Forms.{degrees_of};
 ghost use Rattle.room.specs.Sizes.{answer_of, grid_of};
@@ -34,22 +34,26 @@ pub(crate) struct Given<'a> {
 impl Given<'_> {
     ghost use Rattle.weighted_poly_fit.specs.Asked.{given_fit};
 
-    // A fit whose tables have their exact lengths, with room for the falling factorials of the coordinates, for the exponents and for the values of the
-    // columns. Matrix and right side end as zeros.
-    pub(crate) fn fit_with(
+    // A fit whose tables have their exact lengths, with room for so many columns, falling factorials and exponents: there is no heap, so the rooms are arrays, of
+    // which the part that is needed is lent. Matrix and right side end as zeros. It is not inlined, so that a fit with little room has no frame with much.
+    #[inline(never)]
+    fn fit_within<const COLUMNS: usize, const PRODUCTS: usize, const EXPONENTS: usize>(
         &self,
-        products: &mut [u64],
-        exponents: &mut [u8],
-        values: &mut [u64],
         matrix: &mut [u64],
         right: &mut [u64],
         out: &mut [u64],
     ) -> Result<u64, Refusal>
         requires exact { Exact (given_fit self.now matrix.old right.old out.old) self.now.cols }
-        requires lengths { (length values.old ≡ self.now.cols) × (length exponents.old ≡ self.now.cols * length self.now.degrees.now)
-            × (length products.old ≡ self.now.side * self.now.size) }
+        requires enough { (self.now.cols ≤ COLUMNS) × (self.now.side * self.now.size ≤ PRODUCTS) × (COLUMNS * 20 ≤ EXPONENTS) }
+        requires small { (COLUMNS ≤ 256) × (PRODUCTS ≤ 362) × (EXPONENTS ≤ 5120) }
         ensures { Fitted (given_fit self.now matrix.old right.old out.old) 0 matrix.new right.new out.new (said result) }
     {
+        let mut products_room = [0u64; PRODUCTS];
+        let mut exponents_room = [0u8; EXPONENTS];
+        let mut values_room = [0u64; COLUMNS];
+        let products = &mut products_room[..self.side * self.size];
+        let exponents = &mut exponents_room[..self.cols * self.degrees.len()];
+        let values = &mut values_room[..self.cols];
         self.fill_system(products, exponents, matrix, right);
         let found = self.answer_system(exponents, matrix, right, values, out);
         tables::clear(matrix);
@@ -69,7 +73,7 @@ impl Given<'_> {
             && out.len() == cells
     }
 
-    // A fit whose settings pass. Turned down for 9, with the tables left as they were.
+    // A fit whose settings pass, with the room that it needs. Turned down for 9, with the tables left as they were.
     fn fit_box(
         &self,
         matrix: &mut [u64],
@@ -81,7 +85,10 @@ impl Given<'_> {
         if !self.lengths_fit(matrix, right, out) {
             return Err(Refusal::WrongLength);
         }
-        self.fit_tables(matrix, right, out)
+        if self.cols <= 16 && self.side * self.size <= 64 {
+            return self.fit_within::<16, 64, 320>(matrix, right, out);
+        }
+        self.fit_within::<256, 362, 5120>(matrix, right, out)
     }
 }
 
@@ -93,37 +100,6 @@ fn tabled(variables: usize, grid_degree: u8) -> usize
         return 0;
     }
     grid_degree as usize + 1
-}
-
-// The fit, by its equations.
-fn weighted_fit(
-    weights: &[u64],
-    targets: &[u64],
-    settings: &FitSettings,
-    matrix: &mut [u64],
-    right: &mut [u64],
-    out: &mut [u64],
-) -> Result<u64, Refusal>
-    ensures { let s = settings.now in Called (fit_of s.total s.bitwidth s.support.now s.max_degree s.grid_degree weights.now targets.now
-        matrix.old right.old out.old) matrix.new right.new out.new (said result) }
-{
-    let room = sizes::fit_room(settings)?;
-    let answer = settings.answer();
-    let degrees = answer.degrees();
-    let grid = settings.grid().degrees();
-    let given = Given {
-        weights,
-        targets,
-        degrees: degrees.as_slice(),
-        grid: grid.as_slice(),
-        most: settings.max_degree,
-        rows: room.rows as usize,
-        cols: room.columns as usize,
-        side: tabled(settings.support.len(), settings.grid_degree),
-        size: answer.max_degree as usize + 1,
-        bitwidth: settings.bitwidth,
-    };
-    given.fit_box(matrix, right, out)
 }
 
 // Fits a polynomial in falling factorials to weighted targets on the grid {0, .., grid_degree} over the support variables, modulo 2^bitwidth: exponents
@@ -146,5 +122,21 @@ pub fn recover_weighted_poly(
     ensures fits { let s = settings.now in Fits s.bitwidth (degrees_of (answer_of s)) (degrees_of (grid_of s)) s.max_degree
         weights.now targets.now (said result).number (said result).value out.new }
 {
-    weighted_fit(weights, targets, settings, matrix, right, out)
+    let room = sizes::fit_room(settings)?;
+    let answer = settings.answer();
+    let degrees = answer.degrees();
+    let grid = settings.grid().degrees();
+    let given = Given {
+        weights,
+        targets,
+        degrees: degrees.as_slice(),
+        grid: grid.as_slice(),
+        most: settings.max_degree,
+        rows: room.rows as usize,
+        cols: room.columns as usize,
+        side: tabled(settings.support.len(), settings.grid_degree),
+        size: answer.max_degree as usize + 1,
+        bitwidth: settings.bitwidth,
+    };
+    given.fit_box(matrix, right, out)
 }

@@ -40,19 +40,6 @@ fn weigh(row: &mut [u64], weight: u64, bitwidth: u32)
     }
 }
 
-// Multiplies each row of a table of falling factorials by its weight, modulo 2^bitwidth.
-fn weigh_rows(matrix: &mut [u64], weights: &[u64], cols: usize, bitwidth: u32)
-    requires matrix_len { (length matrix.old ≡ length weights.now * cols) × (bitwidth ≤ 64) }
-    requires matrix_value { matrix.old ≡ tabulate (length matrix.old) (flat cols (fallen bitwidth)) }
-    ensures { matrix.new ≡ tabulate (length matrix.old)
-        (flat cols (λ i c. (at weights.now i * fallen bitwidth i c) % 2 ^ bitwidth)) }
-{
-    for (i, weight) in weights.iter().enumerate() {
-        let from = i * cols;
-        weigh(&mut matrix[from..from + cols], *weight, bitwidth);
-    }
-}
-
 // A column of the matrix as it is filled: its exponents, and its place c among `cols`. `products` has the falling factorials, `size` of each coordinate.
 #[derive(Drop)]
 struct Column<'a> {
@@ -125,6 +112,21 @@ impl Column<'_> {
 }
 
 impl Given<'_> {
+    // Multiplies each row of a table of falling factorials by its weight, modulo 2^bitwidth.
+    fn weigh_rows(&self, matrix: &mut [u64])
+        requires matrix_len { length matrix.old ≡ length self.now.weights.now * self.now.cols }
+        requires matrix_value { matrix.old ≡ tabulate (length matrix.old) (flat self.now.cols (fallen self.now.bitwidth)) }
+        ensures { let g = self.now in matrix.new ≡ tabulate (length matrix.old)
+            (flat g.cols (λ i c. (at g.weights.now i * fallen g.bitwidth i c) % 2 ^ g.bitwidth)) }
+    {
+        // the fields as variables, here and in `fill_right`: read anew in each turn they cost a fit of 256 x 36 four instructions a row and more
+        let (cols, bitwidth) = (self.cols, self.bitwidth);
+        for (i, weight) in self.weights.iter().enumerate() {
+            let from = i * cols;
+            weigh(&mut matrix[from..from + cols], *weight, bitwidth);
+        }
+    }
+
     // Fills the matrix column by column, from zero. `columns` has the exponents of the columns, one column behind the other.
     fn fill_columns(&self, products: &[u64], columns: &[u8], matrix: &mut [u64])
         requires matrix_len { let g = self.now in (length matrix.old ≡ length g.weights.now * g.cols) × (length columns.now ≡ g.cols * length g.grid.now) }
@@ -161,21 +163,22 @@ impl Given<'_> {
     {
         if self.grid.len() == 1 {
             fill_products(matrix, self.weights.len(), self.cols, self.bitwidth);
-            weigh_rows(matrix, self.weights, self.cols, self.bitwidth);
+            self.weigh_rows(matrix);
             return;
         }
         fill_products(products, self.side, self.size, self.bitwidth);
         self.fill_columns(products, exponents, matrix);
     }
-}
 
-// Fills the right side with the targets modulo 2^bitwidth.
-pub(crate) fn fill_right(right: &mut [u64], targets: &[u64], bitwidth: u32)
-    requires { (length targets.now ≡ length right.old) × (bitwidth ≤ 64) }
-    ensures { right.new ≡ tabulate (length right.old) (λ i. at targets.now i % 2 ^ bitwidth) }
-{
-    let mask = arith::bitmask(bitwidth);
-    for (i, entry) in right.iter_mut().enumerate() {
-        *entry = targets[i] & mask;
+    // Fills the right side with the targets modulo 2^bitwidth.
+    pub(crate) fn fill_right(&self, right: &mut [u64])
+        requires { length self.now.targets.now ≡ length right.old }
+        ensures { right.new ≡ tabulate (length right.old) (λ i. at self.now.targets.now i % 2 ^ self.now.bitwidth) }
+    {
+        let targets = self.targets;
+        let mask = arith::bitmask(self.bitwidth);
+        for (i, entry) in right.iter_mut().enumerate() {
+            *entry = targets[i] & mask;
+        }
     }
 }

@@ -1,9 +1,7 @@
 -- A refusal is the check's, and `out` stays. Where the check accepts, there are at most twenty variables and the lengths are those of the box, so that
 -- `convert_box` can be called.
-use mathlib.Core.Path.{sym, ◌∙◌, ap}
-use mathlib.Core.List.{List}
-use mathlib.Core.Bool.{false}
-use Prim.Native.Nat.{ℕ, ◌^◌}
+use Rattle.std.specs.Prelude.{List, false, ℕ, ◌^◌}
+use Rattle.std.proofs.Common.{sym, ◌∙◌, ap}
 use Rattle.meaning.specs.Calls.{convert_left, left}
 use Rattle.settings.specs.Causes.{ready_passes, ready_high}
 use Rattle.settings.specs.Forms.{degrees_of}
@@ -31,5 +29,6 @@ returns-clause-leaves g c =
     let n = c.in_ok-check_tables.ensures in
     let r = ready false s.total s.bitwidth s.support.now (degrees_of s) k.coeffs.now k.out.now (sym n) in
     c.convert_box.ensures
-    ∙ ap (λ (ds : List ℕ). box_of (g.T.FourTransform.line k.transform) (2 ^ s.bitwidth) ds k.coeffs.now) (c.as_slice.ensures ∙ c.degrees-degrees.ensures.all (ready_passes r).short)
+    ∙ ap (λ (ds : List ℕ). box_of (g.T.FourTransform.line k.transform) (2 ^ s.bitwidth) ds k.coeffs.now)
+    (c.as_slice.ensures ∙ c.degrees-degrees.ensures.all (ready_passes r).short)
     ∙ ap (λ (i : ℕ). left i (box_of (g.T.FourTransform.line k.transform) (2 ^ s.bitwidth) (degrees_of s) k.coeffs.now) k.out.now) n

@@ -1,12 +1,8 @@
 -- A refusal of the check is passed on, and offsets that are not one for each support variable are refused, with `out` as it was. Else the three steps leave the
 -- moved form (`moved_of_steps`). The promise follows from the number and what is left.
 use borrow.Author.Tests.{eq-eqb, ne_eqb}
-use mathlib.Core.Path.{◌≡◌, refl, sym, ◌∙◌, ap}
-use mathlib.Core.Bool.{Bool, false, cond}
-use mathlib.Core.List.{List}
-use Prim.Native.Nat.{ℕ}
-use lib.Dec.{eqb}
-use lib.ListN.{length}
+use Rattle.std.specs.Prelude.{◌≡◌, refl, Bool, false, cond, List, ℕ, eqb, length}
+use Rattle.std.proofs.Common.{sym, ◌∙◌, ap}
 use Rattle.meaning.specs.Settings.{first}
 use Rattle.meaning.specs.Datum.{moved}
 use Rattle.meaning.specs.Calls.{in_out_number, move_number, move_left, left}

@@ -1,5 +1,5 @@
--- The loop: `size` is the number of cells of the variables before variable i, and below 2^60; the measure is the number of variables left. A product that
--- is not taken is 2^60 or more, as no table's length is.
+-- The loop: `size` is the number of cells of the variables before variable i, and below 2^60. A product that is not
+-- taken is 2^60 or more, as no table's length is.
 use Rattle.std.proofs.Common.{eqb, sym, ap, lt_of_lt_of_le, arith}
 use Rattle.lines.proofs.BoxSizes.{counted_step, counted_done, too_many, product_high}
 use Rattle.lines.proofs.has_box.Goals as goal

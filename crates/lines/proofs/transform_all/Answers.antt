@@ -7,4 +7,5 @@ pub returns : goal.returns
 returns g c =
     let k = c.args in
     c.walk.ensures (λ i. k.transform) (λ i t p. search rules)
-    ∙ ap (λ u. cond (length k.table.now == cells k.degrees.now) u k.table.now) (walk_same (g.T.FourTransform.line k.transform (2 ^ 64)) k.degrees.now k.table.now)
+    ∙ ap (λ u. cond (length k.table.now == cells k.degrees.now) u k.table.now)
+    (walk_same (g.T.FourTransform.line k.transform (2 ^ 64)) k.degrees.now k.table.now)

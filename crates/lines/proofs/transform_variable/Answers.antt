@@ -8,7 +8,8 @@ use Rattle.lines.proofs.transform_variable.Goals as goal
 
 pub returns-then-leaves_lines-clause-leaves : goal.returns-then-leaves_lines-clause-leaves
 returns-then-leaves_lines-clause-leaves g c =
-    left-blocked _ c.args.stride c.args.degree c.args.table.now (c.leaves_lines.ensures c.if-leaves_lines.true) c.requires.0 (λ i. omega (arith, c.type_inv.table i))
+    left-blocked _ c.args.stride c.args.degree c.args.table.now (c.leaves_lines.ensures c.if-leaves_lines.true) c.requires.0
+    (λ i. omega (arith, c.type_inv.table i))
 
 pub loop-table-preserved : goal.loop-table-preserved
 loop-table-preserved g c =

@@ -1,23 +1,13 @@
 -- A table of another length is left. The loop: the variables before `variable` are done, each by the transform that `along` gave.
-use Rattle.std.proofs.Common.{◌≡◌, ℕ, ◌^◌, length, sym, ap, ◌∙◌, zero-le, one-mul, zero-add, arith, eqb-true}
-use mathlib.Core.Path.{fun_ext}
+use Rattle.std.proofs.Common.{ℕ, ◌^◌, length, sym, ap, ◌∙◌, zero-add, arith}
+use Rattle.std.proofs.Math.Path.{fun_ext}
 use Rattle.meaning.specs.Tables.{tabulate, at}
-use Rattle.meaning.specs.Boxes.{cells}
 use Rattle.meaning.specs.Differences.{newton}
 use Rattle.theory.specs.AlongEach.{Line}
 use Rattle.lines.specs.InPlace.{newton_local}
 use Rattle.lines.specs.FlatTables.{Local, strided}
 use Rattle.lines.specs.FlatLoops.{variables_start, block_fits, block_divides, variables_step, variables-done, walk_each}
 use Rattle.lines.proofs.walk.Goals as goal
-
-pub loop-variable-init : goal.loop-variable-init
-loop-variable-init g c =
-    let k = c.args in
-    let whole : length k.table.now ≡ cells k.degrees.now = eqb-true _ _ (sym c.has_box.ensures ∙ c.if-not-has_box.false) in (
-      omega arith,
-      whole ∙ sym (one-mul _),
-      λ ts h. variables_start _ (λ i. g.met.T.FourTransform.local (ts i) (2 ^ 64)) _ k.table.now 0 1 zero-le (omega arith) (whole ∙ sym (one-mul _)),
-    )
 
 -- what is asked does not depend on the transforms: any will do
 pub transform_variable-stride-requires : goal.transform_variable-stride-requires

@@ -1,6 +1,6 @@
 -- The search is over the degrees below 66, which has twos enough for every width to 64; so the degree that it finds, or 66, is the least.
 use Rattle.std.proofs.Common.{◌≡◌, ℕ, ◌≤◌, ◌<◌, Option, None, Some, unwrap_or, MatchOption, zero-le, le_antisymm, ◌∙◌, rules, tests, arith}
-use native.Mathlib.Decide.{dec_le}
+use Rattle.std.proofs.Math.Decide.{dec_le}
 use Rattle.std.proofs.lemmas.Iterator.{first_from_Range}
 use Rattle.meaning.specs.Factorials.{factorial, twos, degree_cap_of}
 use Rattle.theory.specs.DegreeCap.{degree_cap_of_least, degree_cap_of-le}
@@ -34,4 +34,5 @@ returns c =
     let w = c.args.bitwidth in
     c.unwrap_or.ensures
     ∙ found w c.requires _
-    (first_from_Range _ _ _ _ (λ i. w ≤ twos (factorial i)) (λ i. twos (factorial i) < w) c.find.ensures.ran (λ x q k. search (rules, tests)) (λ x q k. search (rules, tests)))
+    (first_from_Range _ _ _ _ (λ i. w ≤ twos (factorial i)) (λ i. twos (factorial i) < w) c.find.ensures.ran
+    (λ x q k. search (rules, tests)) (λ x q k. search (rules, tests)))

@@ -1,7 +1,7 @@
 -- Three refusals in the order of the tests: an even x, no bits, more than 64. Past them the low bits of the inverse modulo 2^64 are the inverse
 -- modulo 2^bits (`inverse_masked`).
 use Rattle.std.proofs.Common.{◌≡◌, ◌%◌, ap, ◌∙◌, ap₂, arith, eq-eqb}
-use lib.Bits.{bit_and}
+use Rattle.std.specs.Prelude.{bit_and}
 use Rattle.meaning.specs.Replies.{accepted}
 use Rattle.theory.specs.Inverses.{inverse_masked}
 use Rattle.theory.specs.Ranges.{between-true}

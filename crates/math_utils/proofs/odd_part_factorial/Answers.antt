@@ -1,7 +1,7 @@
 -- Three refusals in the order of the tests: k above 255, width 0, a width above 64. Past them the table's entry is the odd part modulo 2^64,
 -- and the mask leaves it modulo 2^bitwidth (`masked_to`).
 use Rattle.std.proofs.Common.{ℕ, ◌%◌, ◌^◌, List, ap, ◌∙◌, ap₂, arith, le-leb}
-use lib.Bits.{bit_and}
+use Rattle.std.specs.Prelude.{bit_and}
 use Rattle.meaning.specs.Tables.{at}
 use Rattle.meaning.specs.Factorials.{factorial, odd_part}
 use Rattle.meaning.specs.Replies.{accepted}

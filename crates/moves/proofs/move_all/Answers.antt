@@ -9,7 +9,8 @@ use Rattle.moves.proofs.move_all.Goals as goal
 
 -- a table that has a number for each cell is moved
 moved_table : (ds t os : List ℕ) {u : List ℕ}
-    → u ≡ cond (length t == cells ds) (transformed_each (λ i. moved_line (2 ^ 64) (at os i)) ds t) t → u ≡ cond (length t == cells ds) (shifted (2 ^ 64) ds t os) t
+    → u ≡ cond (length t == cells ds) (transformed_each (λ i. moved_line (2 ^ 64) (at os i)) ds t) t
+    → u ≡ cond (length t == cells ds) (shifted (2 ^ 64) ds t os) t
 moved_table ds t os {u} h = go (length t == cells ds) refl h
   where
     go : (b : Bool) → (length t == cells ds) ≡ b → u ≡ cond b (transformed_each (λ i. moved_line (2 ^ 64) (at os i)) ds t) t

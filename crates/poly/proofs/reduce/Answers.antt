@@ -12,7 +12,6 @@ pub returns-then-coeffs-count : goal.returns-then-coeffs-count
 returns-then-coeffs-count c =
     let k = c.args in
     let s = k.settings.now in
-    let ds = degrees_of s in
     let ok = taken s c.check.ensures c.in_ok-count.was in
     let x = reduce_length s.bitwidth k.coeffs.now ok (ne_eqb _ _ (λ q. c.if-coeffs-count.true (q ∙ sym ok.counted))) in
     record { says = x.0; leaves = x.1.0; reduces = x.1.1 }
@@ -21,7 +20,6 @@ pub returns-in_err-count : goal.returns-in_err-count
 returns-in_err-count c =
     let k = c.args in
     let s = k.settings.now in
-    let ds = degrees_of s in
     let x = reduce_turned s.bitwidth k.coeffs.now (turned_down s c.check.ensures c.in_err-count.was) in
     rw (handed_on _ c.from_residual.ensures.1) (record { says = x.0; leaves = x.1.0; reduces = x.1.1 })
 

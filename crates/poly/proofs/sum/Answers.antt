@@ -35,7 +35,6 @@ pub returns-then-out-count : goal.returns-then-out-count
 returns-then-out-count c =
     let k = c.args in
     let s = k.settings.now in
-    let ds = degrees_of s in
     let ok = taken s c.check.ensures c.in_ok-count.was in
     let x = sum-lengths s.bitwidth k.a.now k.b.now k.out.now ok
     (ap₂ ◌&&◌ (ap₂ ◌&&◌ (eq-eqb _ _ (c.if-a-count.false ∙ ok.counted)) (eq-eqb _ _ (c.if-b-count.false ∙ ok.counted)))
@@ -46,7 +45,6 @@ pub returns-in_err-count : goal.returns-in_err-count
 returns-in_err-count c =
     let k = c.args in
     let s = k.settings.now in
-    let ds = degrees_of s in
     let x = sum_turned s.bitwidth k.a.now k.b.now k.out.now (turned_down s c.check.ensures c.in_err-count.was) in
     rw (handed_on _ c.from_residual.ensures.1) (record { says = x.0; leaves = x.1.0; sums = x.1.1 })
 

@@ -1,11 +1,10 @@
 -- Settings, then lengths, then the value, which is asked for with a table of few falling products.
 use Rattle.std.proofs.Common.{ℕ, ◌+◌, ◌^◌, ◌<◌, ◌&&◌, eqb, List, length, replicate, sym, ap, ◌∙◌, ap₂, arith, eq-eqb, ne_eqb}
-use lib.ListN.{get_or-replicate, length-replicate}
+use Rattle.std.proofs.Math.ListN.{get_or-replicate, length-replicate}
 use Rattle.meaning.specs.Tables.{at}
 use Rattle.meaning.specs.Values.{value}
 use Rattle.poly.proofs.FewProducts.{products_few}
 use Rattle.poly.proofs.Replies.{value_turned, value-lengths, value-accepted}
-use Rattle.settings.specs.Forms.{degrees_of}
 use Rattle.settings.specs.Taken.{taken, turned_down, taken_passes, taken_small}
 use Rattle.answers.specs.Laws.{handed_on}
 use Rattle.poly.proofs.value.Goals as goal
@@ -18,7 +17,6 @@ pub returns-then-coeffs-count : goal.returns-then-coeffs-count
 returns-then-coeffs-count c =
     let k = c.args in
     let s = k.settings.now in
-    let ds = degrees_of s in
     let ok = taken s c.check.ensures c.in_ok-count.was in
     let x = value-lengths s.bitwidth k.coeffs.now k.point.now ok
     (ap (◌&& eqb (length k.point.now) (length s.support.now)) (ne_eqb _ _ (λ q. c.if-coeffs-count.true (q ∙ sym ok.counted)))) in
@@ -28,7 +26,6 @@ pub returns-then-point-settings : goal.returns-then-point-settings
 returns-then-point-settings c =
     let k = c.args in
     let s = k.settings.now in
-    let ds = degrees_of s in
     let ok = taken s c.check.ensures c.in_ok-count.was in
     let long = c.if-coeffs-count.false ∙ ok.counted in
     let x = value-lengths s.bitwidth k.coeffs.now k.point.now ok (ap₂ ◌&&◌ (eq-eqb _ _ long) (ne_eqb _ _ c.if-point-settings.true)) in
@@ -57,7 +54,6 @@ pub returns-in_err-count : goal.returns-in_err-count
 returns-in_err-count c =
     let k = c.args in
     let s = k.settings.now in
-    let ds = degrees_of s in
     let x = value_turned s.bitwidth k.coeffs.now k.point.now (turned_down s c.check.ensures c.in_err-count.was) in
     rw (handed_on _ c.from_residual.ensures.1) (record { says = x.0; values = x.1 })
 
@@ -65,10 +61,10 @@ pub returns : goal.returns
 returns c =
     let k = c.args in
     let s = k.settings.now in
-    let ds = degrees_of s in
     let ok = taken s c.check.ensures c.in_ok-count.was in
     let pass = taken_passes ok in
     let long = c.if-coeffs-count.false ∙ ok.counted in
     let x = value-accepted s.bitwidth k.coeffs.now k.point.now ok (ap₂ ◌&&◌ (eq-eqb _ _ long) (eq-eqb _ _ c.if-point-settings.false))
-    (c.value_at.ensures ∙ ap (λ (l : List ℕ). value (2 ^ s.bitwidth) l k.coeffs.now k.point.now) (c.as_slice.ensures ∙ c.degrees-degrees.ensures.all pass.short)) in
+    (c.value_at.ensures
+    ∙ ap (λ (l : List ℕ). value (2 ^ s.bitwidth) l k.coeffs.now k.point.now) (c.as_slice.ensures ∙ c.degrees-degrees.ensures.all pass.short)) in
     record { says = x.0; values = x.1 }

@@ -1,6 +1,6 @@
 -- A refusal of the conversion is passed on, with `out` as it was. Where it accepts, what it left is reduced to the normal form. The promise follows from the
 -- number and what is left.
-use mathlib.Core.Path.{sym, ◌∙◌}
+use Rattle.std.proofs.Common.{sym, ◌∙◌}
 use Rattle.meaning.specs.Calls.{convert_left}
 use Rattle.demand3.proofs.BoxCalls.{normalised}
 use Rattle.answers.specs.Laws.{handed_on, left-code}

@@ -1,6 +1,6 @@
 -- The settings decide; where they pass, the cells are counted with them, and the subtractions over the degrees that are lent.
 use Rattle.std.proofs.Common.{◌≡◌, sym, ap, subst, ◌∙◌, le_trans, le_of_eq, ℕ, ◌≤◌, true, List, length, Result, Ok, Err}
-use lib.ListN.{length-replicate}
+use Rattle.std.proofs.lemmas.List.{length-replicate}
 use Rattle.meaning.specs.Boxes.{cells}
 use Rattle.meaning.specs.Settings.{table_limit, fits_width}
 use Rattle.meaning.specs.Calls.{settings_reply}
@@ -26,7 +26,9 @@ module _ (s : Settings) where
     -- the settings are turned down
     turned : {r : Refusal} → answer ≡ Err r → room_told (code r) 0 0 ≡ recovery_room_lem s.total s.bitwidth s.support.now (degrees_of s)
     unfolding settings_reply
-    turned {r} e = room_turned s.total s.bitwidth s.support.now (degrees_of s) r (unsettled true s.total (fits_width s.bitwidth) s.support.now (degrees_of s) says e).refuses
+    turned {r} e =
+        room_turned s.total s.bitwidth s.support.now (degrees_of s) r
+        (unsettled true s.total (fits_width s.bitwidth) s.support.now (degrees_of s) says e).refuses
 
     -- they pass, with as many cells as they say
     module _ {count : ℕ} (e : answer ≡ Ok count) where
@@ -51,11 +53,8 @@ module _ (s : Settings) where
         passed : {m : ℕ} → m ≡ subtractions ds → room_told 0 count m ≡ recovery_room_lem s.total s.bitwidth s.support.now (degrees_of s)
         passed q = room_passed s.total s.bitwidth s.support.now (degrees_of s) _ _ ok.passes ok.counted (q ∙ ap subtractions lent)
 
-pub returns-in_err-cells : goal.returns-in_err-cells
-returns-in_err-cells c =
-    let s = c.args.settings.now in
-    let says = ap room_said (handed_on _ c.from_residual.ensures.1) ∙ turned s c.check.ensures c.in_err-cells.was in
-    record { says = says; costs = costs_of s says }
+pub returns-in_err-cells-clause-says : goal.returns-in_err-cells-clause-says
+returns-in_err-cells-clause-says c = ap room_said (handed_on _ c.from_residual.ensures.1) ∙ turned c.args.settings.now c.check.ensures c.in_err-cells.was
 
 pub count_subtractions-subtractions-requires : goal.count_subtractions-subtractions-requires
 count_subtractions-subtractions-requires c =

@@ -1,8 +1,7 @@
 -- The loop keeps: the count times the cells of the variables that are left is the cells of the box, and the count is at most one above the limit.
-use Prim.Native.Nat.{◌+◌}
-use native.Mathlib.Nat.{min-eq_left, min-eq_right}
-use mathlib.Core.Path.{◌∙◌, sym}
-use native.Mathlib.Omega.{arith}
+use Rattle.std.specs.Prelude.{◌+◌}
+use Rattle.std.proofs.Common.{◌∙◌, sym, arith}
+use Rattle.std.proofs.Math.Nat.{min-eq_left, min-eq_right}
 use Rattle.theory.specs.CountedCells.{counted_next, counted-end, counted-le}
 use Rattle.settings.proofs.count_cells.Goals as goal
 

@@ -1,7 +1,5 @@
 -- The loop keeps: the count times the cells of the variables that are left is the cells of the box, and the count is at most one above the limit.
-use Prim.Native.Nat.{◌+◌, ◌*◌, ◌≤◌}
-use mathlib.Core.Path.{◌≡◌}
-use lib.ListN.{drop}
+use Rattle.std.specs.Prelude.{◌+◌, ◌*◌, ◌≤◌, ◌≡◌, drop}
 use Rattle.meaning.specs.Boxes.{cells}
 use Rattle.settings.proofs.count_cells.Given as goal
 

@@ -1,7 +1,6 @@
 -- Below the range its low end decides; from there on the test against 64 is what is left of it.
-use mathlib.Core.Bool.{◌&&◌}
-use mathlib.Core.Path.{sym, ap}
-use lib.Dec.{leb}
+use Rattle.std.specs.Prelude.{◌&&◌, leb}
+use Rattle.std.proofs.Common.{sym, ap}
 use borrow.Author.Tests.{le-leb}
 use Rattle.meaning.specs.Settings.{fits_width}
 use Rattle.theory.specs.Ranges.{between-low}

@@ -1,5 +1,6 @@
 -- The loop: the lines so far are accepted and their answers are in `out`. `lines_fail` closes the return at a refused line, `lines-done` the end.
-use Rattle.std.proofs.Common.{◌≡◌, ℕ, ◌+◌, ◌-◌, ◌*◌, ◌≤◌, ◌<◌, List, [], ◌∷◌, ◌++◌, length, drop, sym, ap, ◌∙◌, subst, arith, length-append, length-drop, add-mul}
+use Rattle.std.proofs.Common.{◌≡◌, ℕ, ◌+◌, ◌-◌, ◌*◌, ◌≤◌, ◌<◌, List, [], ◌∷◌, ◌++◌, length, drop, sym, ap, ◌∙◌, subst, arith, length-append, length-drop}
+use Rattle.std.proofs.Common.{add-mul}
 use Rattle.theory.specs.Parts.{part, put}
 use Rattle.answers.specs.Said.{code, said_number}
 use Rattle.answers.specs.Laws.{handed_on}

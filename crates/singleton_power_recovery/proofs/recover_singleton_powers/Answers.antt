@@ -6,7 +6,8 @@ use Rattle.meaning.specs.Tables.{tabulate}
 use Rattle.meaning.specs.Singletons.{singleton_settings, singleton_number, singleton_left}
 use Rattle.answers.specs.declared.Refusal.{Refusal}
 use Rattle.answers.specs.Said.{said_number}
-use Rattle.singleton_power_recovery.specs.VariableLines.{Singles, too_many, bad_width, wrong_given, wrong_out, settings_pass, settings-number, settings-left, singles_number, singles_left}
+use Rattle.singleton_power_recovery.specs.VariableLines.{Singles, too_many, bad_width, wrong_given, wrong_out, settings_pass, settings-number}
+use Rattle.singleton_power_recovery.specs.VariableLines.{settings-left, singles_number, singles_left}
 use Rattle.singleton_power_recovery.proofs.Caps.{Capped, capped, uncapped, capped_long, capped_short, capped_count, refused_number, accepted_number}
 use Rattle.singleton_power_recovery.proofs.recover_singleton_powers.Goals as goal
 
@@ -17,7 +18,8 @@ module _ {n w size : ℕ} (k : Capped n w size) (v out : List ℕ) where
   wrong_length (inr h) = wrong_out n w v out k.few k.fits (h.0 ∙ ap (n *◌) k.cap) (λ q. h.1 (q ∙ ap (n *◌) (sym k.cap)))
 
   -- both as they have to be: the lines decide
-  module _ (given : length v ≡ n * size) (room : length out ≡ n * size) (lines : Result ⊤ Refusal) {t : List ℕ} (s : Singles w size n v t (said_number lines)) where
+  module _ (given : length v ≡ n * size) (room : length out ≡ n * size) (lines : Result ⊤ Refusal) {t : List ℕ}
+      (s : Singles w size n v t (said_number lines)) where
     none : singleton_settings n w v out ≡ 0
     none = settings_pass n w v out k.few k.fits (given ∙ ap (n *◌) k.cap) (room ∙ ap (n *◌) k.cap)
 
@@ -92,7 +94,8 @@ returns-then-is_err-clause-leaves c =
     let refused = refused_number lines.result (sym c.is_err.ensures.value ∙ c.if-is_err.true) in
     c.clear.ensures
     ∙ ap (λ (n : ℕ). tabulate n (λ j. 0)) (lines.auto.out ∙ c.if-out-count.false)
-    ∙ decided_left cap k.values.now k.out.now c.if-values-count.false c.if-out-count.false lines.result (lines.ensures k.num_vars c.if-values-count.false) refused
+    ∙ decided_left cap k.values.now k.out.now c.if-values-count.false c.if-out-count.false lines.result
+    (lines.ensures k.num_vars c.if-values-count.false) refused
 
 pub returns-else-is_err-clause-leaves : goal.returns-else-is_err-clause-leaves
 returns-else-is_err-clause-leaves c =
@@ -100,4 +103,5 @@ returns-else-is_err-clause-leaves c =
     let cap = capped k.bitwidth c.if-num_vars-gt20.false c.degree_cap.ensures c.in-Ok.is in
     let lines = c.recover_lines-outcome in
     let accepted = accepted_number lines.result (sym c.is_err.ensures.value ∙ c.if-is_err.false) in
-    decided_left cap k.values.now k.out.now c.if-values-count.false c.if-out-count.false lines.result (lines.ensures k.num_vars c.if-values-count.false) accepted
+    decided_left cap k.values.now k.out.now c.if-values-count.false c.if-out-count.false lines.result
+    (lines.ensures k.num_vars c.if-values-count.false) accepted

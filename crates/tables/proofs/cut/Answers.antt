@@ -1,6 +1,7 @@
 -- The loop: the numbers before the index are cut, the others as they were. The mask leaves the remainder.
 use Rattle.std.proofs.Common.{◌∙◌, ap₂, arith, le_refl}
-use lib.Bits.{bit_and, and_mask}
+use Rattle.std.specs.Prelude.{bit_and}
+use Rattle.std.specs.Int.Bits.{and_mask}
 use Rattle.theory.specs.Tables.{filled_step, filled_done}
 use Rattle.tables.proofs.cut.Goals as goal
 

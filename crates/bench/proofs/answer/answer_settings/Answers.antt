@@ -30,7 +30,8 @@ returns c =
     let small = small_cells s _ _ c.box_cells-cells.ensures c.unwrap_or-size.ensures in
     let outcome : said_number c.map.result ≡ (said c.box_cells-cells.result).number = mapped _ _ _ c.map.ensures.cases in
     let text : text_for (said_number c.verdict_of-outcome.result) (degrees_of s) recovered.new.out ≡ text_of k.reading (asked_by s) k.count k.values.now =
-    ap₂ (λ (n : ℕ) (ks : List ℕ). text_for n (degrees_of s) ks) (c.verdict_of-outcome.ensures ∙ ap (verdict k.reading _ _) recovered.ensures.says) recovered.ensures.leaves
+    ap₂ (λ (n : ℕ) (ks : List ℕ). text_for n (degrees_of s) ks)
+    (c.verdict_of-outcome.ensures ∙ ap (verdict k.reading _ _) recovered.ensures.says) recovered.ensures.leaves
     ∙ text_recovered s.bitwidth s.total s.max_degree s.support.now (said_number c.map.result) size
     (told_said s _ _ c.box_cells-cells.ensures c.unwrap_or-size.ensures _ outcome) k.reading k.count k.values.now room c.requires.table
     (length-take-le size c.cell_room-room.result (omega (arith, small, c.cell_room-room.ensures.size))) in

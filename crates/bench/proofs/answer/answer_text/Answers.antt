@@ -8,12 +8,18 @@ pub returns-clause-says : goal.returns-clause-says
 returns-clause-says c =
     let k = c.args in
     let s = c.settings_of-settings in
-    let head : SaidBy k.reader.head s.result = record { width = s.ensures.width; total = s.ensures.total; degree = s.ensures.degree; support = s.ensures.support } in
-    λ bs x f e. c.answer_settings.ensures.says ∙ ap (λ (t : List ℕ). printed_size t k.out.now) (asked_text k.reader s.result head (search rules) _ c.reading.ensures k.values.now bs x f e)
+    let e = s.ensures in
+    let head : SaidBy k.reader.head s.result = record { width = e.width; total = e.total; degree = e.degree; support = e.support } in
+    λ bs x f q.
+    c.answer_settings.ensures.says
+    ∙ ap (λ (t : List ℕ). printed_size t k.out.now) (asked_text k.reader s.result head (search rules) _ c.reading.ensures k.values.now bs x f q)
 
 pub returns-clause-leaves : goal.returns-clause-leaves
 returns-clause-leaves c =
     let k = c.args in
     let s = c.settings_of-settings in
-    let head : SaidBy k.reader.head s.result = record { width = s.ensures.width; total = s.ensures.total; degree = s.ensures.degree; support = s.ensures.support } in
-    λ bs x f e. c.answer_settings.ensures.leaves ∙ ap (λ (t : List ℕ). printed t k.out.now) (asked_text k.reader s.result head (search rules) _ c.reading.ensures k.values.now bs x f e)
+    let e = s.ensures in
+    let head : SaidBy k.reader.head s.result = record { width = e.width; total = e.total; degree = e.degree; support = e.support } in
+    λ bs x f q.
+    c.answer_settings.ensures.leaves
+    ∙ ap (λ (t : List ℕ). printed t k.out.now) (asked_text k.reader s.result head (search rules) _ c.reading.ensures k.values.now bs x f q)

@@ -4,7 +4,8 @@ use Rattle.std.proofs.Common.{◌≡◌, ◌+◌, ◌*◌, ◌-◌, ◌/◌, ◌
 use Rattle.bench_file.specs.Layout.{accepted_text, non_zeros}
 use Rattle.bench_file.specs.NumberLaws.{length-number}
 use Rattle.bench_file.specs.PrintLaws.{writes_then, writes_same, writes_length}
-use Rattle.bench_file.specs.AnswerLaws.{printed_none, printed_no_size, accepted-short, accepted_no_room, accepted_room, accepted_terms, accepted_lines, writes-size, writes-whole}
+use Rattle.bench_file.specs.AnswerLaws.{printed_none, printed_no_size, accepted-short, accepted_no_room, accepted_room, accepted_terms, accepted_lines}
+use Rattle.bench_file.specs.AnswerLaws.{writes-size, writes-whole}
 use Rattle.bench_file.proofs.answer.write_accepted.Goals as goal
 
 -- the text that is asked for does not fit by one of the tests, or fits

@@ -1,12 +1,13 @@
 use Rattle.std.proofs.Common.{arith}
-use Rattle.box_rows.specs.Layouts.{adding_start}
-use Rattle.box_rows.proofs.MaskLayouts.{mask, mask_zeroth, masks_step}
+use Rattle.box_rows.specs.Layouts.{adding_start, adding_step}
 use Rattle.box_rows.proofs.layout.add_variable.Goals as goal
 
 pub loop-e-init : goal.loop-e-init
-loop-e-init c = adding_start mask _ _ _ mask_zeroth
+loop-e-init g c = adding_start _ _ _ _ (g.met.N.CellNumbers.zeroth c.args.numbers.now)
 
 pub loop-e-preserved : goal.loop-e-preserved
-loop-e-preserved c =
+loop-e-preserved g c =
     let l = c.loop-e in
-    masks_step _ _ _ l.masks l.from l.e l.invariant (omega (arith, c.loop-e-test.true)) _ c.twos_in.ensures.twos _ c.next_cells.auto.masks c.next_cells.ensures
+    let few = c.loop-e-test.true in
+    adding_step _ _ _ _ l.table l.from l.e l.invariant (omega (arith, few)) _ c.next_cells.auto.table
+    (λ ds t₀. c.next_cells.ensures c.args.d ds t₀ (omega (arith, few)))

@@ -1,13 +1,6 @@
--- The zeros at the end of a number of 64 bits that is not 0 are its twos, and fewer than 64 of them.
-use Rattle.std.proofs.Common.{arith}
+-- The zeros at the end of a number of 64 bits that is not 0 are its twos.
 use Rattle.theory.specs.Twos.{trailing_eq-twos}
-use Rattle.box_rows.proofs.MaskLayouts.{twos_small}
 use Rattle.box_rows.proofs.layout.twos_in.Goals as goal
 
 pub returns-clause-twos : goal.returns-clause-twos
 returns-clause-twos c = trailing_eq-twos 64 c.args.n c.requires c.ranges.n.fits
-
-pub returns-clause-small : goal.returns-clause-small
-returns-clause-small c =
-    let same = trailing_eq-twos 64 c.args.n c.requires c.ranges.n.fits in
-    omega (arith, same, twos_small 64 c.args.n c.requires c.ranges.n.fits)

@@ -1,8 +1,9 @@
 use Rattle.std.proofs.Common.{ℕ, ◌<◌, ◌+◌, ◌-◌, ◌/◌, length, refl, arith, rules}
 use Rattle.meaning.specs.Tables.{at}
 use Rattle.box_rows.specs.Jobs.{AllAtHand}
+use Rattle.box_rows.specs.Rows.{begins_short, begins_others}
 use Rattle.box_rows.specs.Walks.{walk_start}
-use Rattle.box_rows.proofs.Turns.{walked_cong, turns_start, turns_inside, turns_next, turns_fail, turns-done, no_bits, hand_part, begins_short, begins_others}
+use Rattle.box_rows.proofs.Turns.{walked_cong, turns_start, turns_inside, turns_next, turns_fail, turns-done, no_bits, hand_part}
 use Rattle.box_rows.proofs.walk.+boxes.Goals as goal
 
 pub returns-then-part-eq0 : goal.returns-then-part-eq0
@@ -19,7 +20,8 @@ boxes-requires g t c κs within =
     let ds = c.args.part.now.degrees.now in
     let size : ℕ = c.args.part.now.count / (at ds (length ds - 1) + 1) in
     let here = turns_inside l.invariant (omega (arith, c.loop-e-test.true)) in
-    let hand : AllAtHand (g.J.Job.at_hand c.args.job.now (length l.table)) l.from size = hand_part (g.J.Job.at_hand c.args.job.now (length l.table)) (rw l.auto.table c.requires.hand) here in
+    let p = g.J.Job.at_hand c.args.job.now (length l.table) in
+    let hand : AllAtHand p l.from size = hand_part p (rw l.auto.table c.requires.hand) here in
     (search rules, (search rules, (begins_others _ _ c.requires.begins c.if-degrees-rows.false, hand)))
 
 pub returns-then-not-boxes : goal.returns-then-not-boxes

@@ -8,4 +8,5 @@ use Rattle.box_rows.proofs.walk.line.Given as goal
 abbrev pub invariant-loop-i : goal.invariant-loop-i
 invariant-loop-i g l =
     let j = g.J.Job in
-    Walked (j.left l.job) (j.passes l.job) (λ n. 2 ^ (l.bits - twos (factorial n))) l.from l.i l.initial.table l.table (l.found == 0) × LineMask l.bits l.i l.mask
+    Walked (j.left l.job) (j.passes l.job) (λ n. 2 ^ (l.bits - twos (factorial n))) l.from l.i l.initial.table l.table (l.found == 0)
+    × LineMask l.bits l.i l.mask

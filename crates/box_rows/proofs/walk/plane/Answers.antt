@@ -1,39 +1,34 @@
 -- The loop: the lines below the last exponent e pass (`Turns`), and `left` are the bits that e leaves.
-use Rattle.std.proofs.Common.{◌≡◌, ℕ, ◌-◌, length, refl, ap, ◌∙◌, arith}
+use Rattle.std.proofs.Common.{◌≡◌, ℕ, ◌-◌, length, refl, ap, arith}
 use Rattle.meaning.specs.Tables.{at}
-use Rattle.theory.specs.LastVariable.{others, final, length-others}
+use Rattle.theory.specs.LastVariable.{final}
 use Rattle.box_rows.specs.Walks.{walk_lines}
-use Rattle.box_rows.proofs.Turns.{turns_start, turns_inside, turns_next, turns_fail, turns-done, line_bounds, second, hand_part}
+use Rattle.box_rows.proofs.Turns.{turns_start, turns_inside, turns_next, turns_fail, turns-done, turns_line, second, hand_part}
 use Rattle.box_rows.proofs.walk.plane.Goals as goal
 
 pub loop-e-init : goal.loop-e-init
 loop-e-init g c = turns_start (walk_lines _ _ c.requires.two c.args.part.now.whole _ refl)
 
 pub line-requires-clause-low : goal.line-requires-clause-low
-line-requires-clause-low g c =
-    let h = second c.args.part.now.degrees.now c.requires.two c.loop-e-test.true in
-    omega (arith, turns_inside c.loop-e.invariant h, c.args.part.now.low)
+line-requires-clause-low g c = omega (arith, turns_inside c.loop-e.invariant (second _ c.requires.two c.loop-e-test.true), c.args.part.now.low)
 
 pub line-requires-clause-hand : goal.line-requires-clause-hand
 line-requires-clause-hand g c =
-    let h = second c.args.part.now.degrees.now c.requires.two c.loop-e-test.true in
-    hand_part (g.J.Job.at_hand c.args.job.now (length c.loop-e.table)) (rw c.loop-e.auto.table c.requires.hand) (turns_inside c.loop-e.invariant h)
+    let l = c.loop-e in
+    hand_part (g.J.Job.at_hand c.args.job.now (length l.table)) (rw l.auto.table c.requires.hand)
+    (turns_inside l.invariant (second _ c.requires.two c.loop-e-test.true))
 
 pub returns-then-not-line : goal.returns-then-not-line
 returns-then-not-line g c =
-    let l = c.loop-e in
-    let ds = c.args.part.now.degrees.now in
-    let h = second ds c.requires.two c.loop-e-test.true in
-    let one : length (others ds) ≡ 1 = length-others ds (omega (arith, c.requires.two)) ∙ omega (arith, c.requires.two) in
-    turns_fail l.invariant h c.line.ensures (λ i s. line_bounds l.left (others ds) one i (rw l.invariant.walk.sized at s)) c.if-not-line.true
+    let r = c.loop-e.invariant in
+    let two = c.requires.two in
+    turns_fail r (second _ two c.loop-e-test.true) c.line.ensures (turns_line r two) c.if-not-line.true
 
 pub loop-e-preserved : goal.loop-e-preserved
 loop-e-preserved g c =
-    let l = c.loop-e in
-    let ds = c.args.part.now.degrees.now in
-    let h = second ds c.requires.two c.loop-e-test.true in
-    let one : length (others ds) ≡ 1 = length-others ds (omega (arith, c.requires.two)) ∙ omega (arith, c.requires.two) in
-    turns_next l.invariant h c.line.ensures (λ i s. line_bounds l.left (others ds) one i (rw l.invariant.walk.sized at s)) _ c.if-not-line.false c.bits_left-left.ensures
+    let r = c.loop-e.invariant in
+    let two = c.requires.two in
+    turns_next r (second _ two c.loop-e-test.true) c.line.ensures (turns_line r two) _ c.if-not-line.false c.bits_left-left.ensures
 
 pub returns : goal.returns
 returns g c =

@@ -1,5 +1,5 @@
 -- The loop keeps: the entries before i are filled.
-use Prim.Native.Nat.{◌*◌}
+use Rattle.std.proofs.Common.{◌*◌}
 use Rattle.theory.specs.Tables.{Filled}
 use Rattle.byte_calls.specs.Bytes.{number_at}
 use Rattle.byte_calls.proofs.codec.decode.Given as goal

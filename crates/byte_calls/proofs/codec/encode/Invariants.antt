@@ -1,5 +1,5 @@
 -- The loop keeps: the bytes of the entries before i are written.
-use Prim.Native.Nat.{◌*◌, ◌/◌, ◌%◌}
+use Rattle.std.proofs.Common.{◌*◌, ◌/◌, ◌%◌}
 use Rattle.meaning.specs.Tables.{at}
 use Rattle.theory.specs.Tables.{Filled}
 use Rattle.byte_calls.specs.Bytes.{byte_of}

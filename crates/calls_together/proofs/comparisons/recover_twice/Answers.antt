@@ -1,5 +1,5 @@
 -- Both recoveries keep their promise, so that their forms have the values of the one polynomial.
-use lib.ListN.{length-replicate}
+use Rattle.std.proofs.Math.ListN.{length-replicate}
 use Rattle.calls_together.proofs.Compared.{recoveries_follow}
 use Rattle.calls_together.proofs.comparisons.recover_twice.Goals as goal
 

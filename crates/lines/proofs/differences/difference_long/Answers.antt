@@ -9,25 +9,23 @@ loop-low-init c = passes-start _ _ _
 
 pub returns-then-nothing_left : goal.returns-then-nothing_left
 returns-then-nothing_left c =
-    let s = c.args.stride in
-    let low = c.loop-low.low in
-    let p = c.requires in
-    let from : low + (s + s) - s ≡ low + s = omega arith in
-    passes_stop _ _ _ c.difference_pair.new.part _ (passes_pair _ _ _ c.loop-low.part low c.loop-low.invariant p.0 p.1 _ c.difference_pair.ensures) p.0 p.1
+    let b = c.args.block in
+    let l = c.loop-low in
+    let from : l.low + (b.stride + b.stride) - b.stride ≡ l.low + b.stride = omega arith in
+    passes_stop _ _ _ c.difference_pair.new.part _ (passes_pair _ _ _ l.part l.low l.invariant _ c.difference_pair.ensures) b.some c.requires
     (rw from (c.nothing_left.ensures c.if-nothing_left.true))
 
 pub loop-low-preserved : goal.loop-low-preserved
-loop-low-preserved c = let p = c.requires in passes_pair _ _ _ c.loop-low.part c.loop-low.low c.loop-low.invariant p.0 p.1 _ c.difference_pair.ensures
+loop-low-preserved c = passes_pair _ _ _ c.loop-low.part c.loop-low.low c.loop-low.invariant _ c.difference_pair.ensures
 
 pub returns : goal.returns
 returns c =
-    let p = c.requires in
-    passes_done _ _ _ c.loop-low.part c.loop-low.low c.loop-low.invariant p.0 p.1 (omega (arith, c.loop-low-test.false))
+    let l = c.loop-low in
+    passes_done _ _ _ l.part l.low l.invariant c.args.block.some c.requires (omega (arith, c.loop-low-test.false))
 
 pub returns-else-nothing_left : goal.returns-else-nothing_left
 returns-else-nothing_left c =
-    let s = c.args.stride in
-    let low = c.loop-low.low in
-    let p = c.requires in
-    passes_done _ _ _ c.difference_pair.new.part (low + (s + s))
-    (passes_pair _ _ _ c.loop-low.part low c.loop-low.invariant p.0 p.1 _ c.difference_pair.ensures) p.0 p.1 (omega arith)
+    let b = c.args.block in
+    let l = c.loop-low in
+    passes_done _ _ _ c.difference_pair.new.part (l.low + (b.stride + b.stride))
+    (passes_pair _ _ _ l.part l.low l.invariant _ c.difference_pair.ensures) b.some c.requires (omega arith)

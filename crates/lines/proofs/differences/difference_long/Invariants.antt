@@ -1,11 +1,7 @@
 -- The loop: `low` is stride * (n + 1) once n passes are done, and each turn makes two; at the end of the block these are d
 -- or more, which is all. It stops early where the last pass left only zeros.
-use Rattle.std.proofs.Common.{◌-◌, length}
 use Rattle.lines.proofs.Passes.{Passes}
 use Rattle.lines.proofs.differences.difference_long.Given as goal
 
 abbrev pub invariant-loop-low : goal.invariant-loop-low
-invariant-loop-low l = Passes l.stride l.d l.initial.part l.part l.low
-
-abbrev pub decreases-loop-low : goal.decreases-loop-low
-decreases-loop-low l = length l.initial.part - l.low
+invariant-loop-low l = Passes l.fn.block.stride l.fn.block.degree l.initial.part l.part l.low

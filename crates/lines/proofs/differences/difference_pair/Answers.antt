@@ -1,5 +1,5 @@
 -- The first return is never taken: no table is that long. The loop comes down: from place i on the numbers are two passes further, below it they are as
--- they were; the measure is i. The single pass does the lowest index.
+-- they were. The single pass does the lowest index.
 use Rattle.std.proofs.Common.{◌^◌, refl, ◌∙◌, ap₂}
 use Rattle.meaning.specs.Differences.{minus}
 use Rattle.lines.proofs.PairPasses.{pair_step, pair_done}

@@ -1,4 +1,4 @@
--- The loop comes down: from place i on the numbers are one pass further, below it they are as they were; the measure is i.
+-- The loop comes down: from place i on the numbers are one pass further, below it they are as they were.
 use Rattle.lines.proofs.Passes.{passing_step, passing_done}
 use Rattle.lines.proofs.differences.difference_pass.Goals as goal
 

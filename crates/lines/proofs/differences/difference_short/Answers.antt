@@ -7,10 +7,8 @@ loop-low-init c = passes-start _ _ _
 
 pub loop-low-preserved : goal.loop-low-preserved
 loop-low-preserved c =
-    let p = c.requires in
-    passes-step _ _ _ c.loop-low.part c.loop-low.low c.loop-low.invariant p.0 p.1 _ c.difference_pass.ensures
+    passes-step _ _ _ c.loop-low.part c.loop-low.low c.loop-low.invariant _ c.difference_pass.ensures
 
 pub returns : goal.returns
 returns c =
-    let p = c.requires in
-    passes_done _ _ _ c.loop-low.part c.loop-low.low c.loop-low.invariant p.0 p.1 c.loop-low-test.false
+    passes_done _ _ _ c.loop-low.part c.loop-low.low c.loop-low.invariant c.args.block.some c.requires c.loop-low-test.false

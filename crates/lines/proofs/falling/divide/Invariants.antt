@@ -8,9 +8,9 @@ use Rattle.lines.proofs.falling.divide.Given as goal
 abbrev pub invariant-loop-i : goal.invariant-loop-i
 invariant-loop-i l =
     (length l.part ≡ length l.initial.part)
-    × (l.i ≤ l.stride * l.degree)
-    × ((f : ℕ → ℕ) → Passed (2 ^ 64) to_falling l.stride l.degree f (length l.initial.part) l.pass l.initial.part
-    → Passing (2 ^ 64) to_falling l.stride l.degree f (length l.initial.part) l.pass l.i l.part)
+    × (l.i ≤ l.fn.block.stride * l.fn.block.degree)
+    × ((f : ℕ → ℕ) → Passed (2 ^ 64) to_falling l.fn.block.stride l.fn.block.degree f (length l.initial.part) l.pass l.initial.part
+    → Passing (2 ^ 64) to_falling l.fn.block.stride l.fn.block.degree f (length l.initial.part) l.pass l.i l.part)
 
 abbrev pub decreases-loop-i : goal.decreases-loop-i
 decreases-loop-i l = l.i

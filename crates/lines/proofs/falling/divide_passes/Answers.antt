@@ -7,7 +7,7 @@ use Rattle.lines.specs.NodeConversions.{passed-one, shows_falling}
 use Rattle.lines.proofs.falling.divide_passes.Goals as goal
 
 pub loop-pass-init : goal.loop-pass-init
-loop-pass-init c = passed-one _ c.requires.0 c.requires.1 (λ i p. omega (arith, c.slice_known-1.given i))
+loop-pass-init c = passed-one _ c.args.block.some c.requires (λ i p. omega (arith, c.slice_known-1.given i))
 
 pub loop-pass-preserved : goal.loop-pass-preserved
 loop-pass-preserved c =
@@ -16,4 +16,4 @@ loop-pass-preserved c =
     rw (add-one c.loop-pass.pass) ((rw r.shows.same at pass) r)
 
 pub returns : goal.returns
-returns c = eq-tabulate_of_shows (shows_falling c.requires.0 c.requires.1 (omega arith) c.loop-pass.invariant)
+returns c = eq-tabulate_of_shows (shows_falling c.args.block.some c.requires (omega arith) c.loop-pass.invariant)

@@ -6,7 +6,7 @@ use Rattle.lines.specs.DivisionPasses.{difference_with_product}
 use Rattle.lines.proofs.powers.undivide.Goals as goal
 
 pub loop-i-init : goal.loop-i-init
-loop-i-init c = (refl, omega arith, λ f r. open_start c.requires.0 c.requires.3 r)
+loop-i-init c = (refl, omega arith, λ f r. open_start c.args.block.some c.requires.2 r)
 
 pub loop-i-preserved : goal.loop-i-preserved
 loop-i-preserved c =
@@ -18,17 +18,17 @@ loop-i-preserved c =
       omega arith,
       λ f r.
           rw two at
-          (open_step c.requires.0 c.requires.3 (omega arith) (omega arith)
-          (open_step c.requires.0 c.requires.3 (omega arith) (omega arith) (c.loop-i.invariant.2 f r) _ number) _ next),
+          (open_step c.args.block.some c.requires.2 (omega arith) (omega arith)
+          (open_step c.args.block.some c.requires.2 (omega arith) (omega arith) (c.loop-i.invariant.2 f r) _ number) _ next),
     )
 
 pub returns-then-i-last : goal.returns-then-i-last
 returns-then-i-last c =
-    let room : 0 < c.args.stride * c.args.degree = mul-pos c.requires.0 (omega (arith, c.requires.1, c.requires.2)) in
+    let room : 0 < c.args.block.stride * c.args.block.degree = mul-pos c.args.block.some (omega (arith, c.requires.0, c.requires.1)) in
     let number = difference_with_product _ c.args.pass _ _ (pow_pos 64) c.wrapping_mul-then-i-last.ensures c.wrapping_sub-then-i-last.ensures in
     λ f r.
-    open_done c.requires.0 c.requires.3 (omega (arith, room))
-    (open_step c.requires.0 c.requires.3 (omega arith) (omega (arith, room)) (c.loop-i.invariant.2 f r) _ number)
+    open_done c.args.block.some c.requires.2 (omega (arith, room))
+    (open_step c.args.block.some c.requires.2 (omega arith) (omega (arith, room)) (c.loop-i.invariant.2 f r) _ number)
 
 pub returns-else-i-last : goal.returns-else-i-last
-returns-else-i-last c = λ f r. open_done c.requires.0 c.requires.3 (omega (arith, c.if-i-last.false, c.loop-i-test.false)) (c.loop-i.invariant.2 f r)
+returns-else-i-last c = λ f r. open_done c.args.block.some c.requires.2 (omega (arith, c.if-i-last.false, c.loop-i-test.false)) (c.loop-i.invariant.2 f r)

@@ -8,9 +8,9 @@ use Rattle.lines.proofs.powers.undivide.Given as goal
 abbrev pub invariant-loop-i : goal.invariant-loop-i
 invariant-loop-i l =
     (length l.part ≡ length l.initial.part)
-    × (l.stride * l.pass ≤ l.i)
-    × ((f : ℕ → ℕ) → Opened (2 ^ 64) (to_powers (2 ^ 64)) l.stride l.degree f (length l.initial.part) (suc l.pass) l.initial.part
-    → Opening (2 ^ 64) (to_powers (2 ^ 64)) l.stride l.degree f (length l.initial.part) l.pass l.i l.part)
+    × (l.fn.block.stride * l.pass ≤ l.i)
+    × ((f : ℕ → ℕ) → Opened (2 ^ 64) (to_powers (2 ^ 64)) l.fn.block.stride l.fn.block.degree f (length l.initial.part) (suc l.pass) l.initial.part
+    → Opening (2 ^ 64) (to_powers (2 ^ 64)) l.fn.block.stride l.fn.block.degree f (length l.initial.part) l.pass l.i l.part)
 
 abbrev pub decreases-loop-i : goal.decreases-loop-i
 decreases-loop-i l = l.last - l.i

@@ -8,7 +8,7 @@ use Rattle.lines.specs.NodeConversions.{shows_powers}
 use Rattle.lines.proofs.powers.undivide_passes.Goals as goal
 
 pub loop-pass-init : goal.loop-pass-init
-loop-pass-init c = opened_of_table _ _ _ c.requires.0 c.requires.1 (λ i p. omega (arith, c.slice_known-1.given i))
+loop-pass-init c = opened_of_table _ _ _ c.args.block.some c.requires (λ i p. omega (arith, c.slice_known-1.given i))
 
 pub loop-pass-preserved : goal.loop-pass-preserved
 loop-pass-preserved c =
@@ -18,4 +18,4 @@ loop-pass-preserved c =
     (rw r.shows.same at pass) (rw before at r)
 
 pub returns : goal.returns
-returns c = eq-tabulate_of_shows (shows_powers c.requires.0 c.requires.1 (pow_pos 64) (omega arith) c.loop-pass.invariant)
+returns c = eq-tabulate_of_shows (shows_powers c.args.block.some c.requires (pow_pos 64) (omega arith) c.loop-pass.invariant)

@@ -2,7 +2,8 @@
 -- follow are zero.
 use Rattle.std.proofs.Common.{sym, ◌∙◌, arith}
 use Rattle.theory.specs.Ranges.{width_pos, width_high}
-use Rattle.math_utils.proofs.FallingLoops.{product-start, product-low, product_next, product_stop, product-zero, product-all, product_whole, falling-fits, said_stops}
+use Rattle.math_utils.proofs.FallingLoops.{product-start, product-low, product_next, product_stop, product-zero, product-all, product_whole, falling-fits}
+use Rattle.math_utils.proofs.FallingLoops.{said_stops}
 use Rattle.math_utils.proofs.falling.falling_product.Goals as goal
 
 pub returns-then-not-width_fits-clause-stops : goal.returns-then-not-width_fits-clause-stops

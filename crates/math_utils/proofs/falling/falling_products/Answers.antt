@@ -4,7 +4,8 @@ use Rattle.meaning.specs.Factorials.{falling}
 use Rattle.theory.specs.Ranges.{width_pos, width_high}
 use Rattle.theory.specs.Tables.{Filled, filled_step}
 use Rattle.theory.specs.Parts.{put}
-use Rattle.math_utils.proofs.FallingLoops.{product-start, product-low, product-kept, product_next, product_stop, product-zero, product-all, table-start, table-zeros, table_done, products-fit, products_none}
+use Rattle.math_utils.proofs.FallingLoops.{product-start, product-low, product-kept, product_next, product_stop, product-zero, product-all, table-start}
+use Rattle.math_utils.proofs.FallingLoops.{table-zeros, table_done, products-fit, products_none}
 use Rattle.math_utils.proofs.falling.falling_products.Goals as goal
 
 pub returns-then-lent-eq0 : goal.returns-then-lent-eq0
@@ -30,7 +31,8 @@ returns-then-low-eq0 c =
     let z = c.if-low-eq0.true in
     let first : length (set a.lent.now 0 1) ≡ length a.lent.now = length-set a.lent.now 0 1 in
     let same : length l.lent ≡ length a.lent.now = i.1.same ∙ first in
-    let stopped : Filled (λ n. falling a.x n % 2 ^ a.bitwidth) (set a.lent.now 0 1) (put (l.taken + 1) (length l.lent) l.lent c.clear.new.table) (length l.lent) =
+    let left = put (l.taken + 1) (length l.lent) l.lent c.clear.new.table in
+    let stopped : Filled (λ n. falling a.x n % 2 ^ a.bitwidth) (set a.lent.now 0 1) left (length l.lent) =
     table-zeros _ _ _ l.lent _ i.1 (omega (arith, c.loop-taken-test.true, same)) c.clear.ensures (λ k h. product-zero i.0 m h z) in
     let p = products-fit _ _ (sym c.width_fits.ensures ∙ c.if-not-width_fits.false) a.lent.now refl
     (product_stop i.0 m c.loop-taken-test.true z)

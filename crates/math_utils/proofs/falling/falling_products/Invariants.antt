@@ -6,4 +6,5 @@ use Rattle.math_utils.proofs.FallingLoops.{Product}
 use Rattle.math_utils.proofs.falling.falling_products.Given as goal
 
 abbrev pub invariant-loop-taken : goal.invariant-loop-taken
-invariant-loop-taken l = Product l.bitwidth l.x l.last l.mask l.product l.taken × Filled (λ k. falling l.x k % 2 ^ l.bitwidth) l.initial.lent l.lent (l.taken + 1)
+invariant-loop-taken l =
+    Product l.bitwidth l.x l.last l.mask l.product l.taken × Filled (λ k. falling l.x k % 2 ^ l.bitwidth) l.initial.lent l.lent (l.taken + 1)

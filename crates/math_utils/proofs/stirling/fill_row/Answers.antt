@@ -30,7 +30,9 @@ loop-j-preserved c =
       omega arith,
       omega (arith, h),
       simp length-set n.invariant.2,
-      subst (λ (q : ℕ). Columns a.bitwidth a.side a.from a.i a.first a.step a.table.now (set t q u.result) grown (at n.table (a.from + n.j + 1)) (n.j + 2)) (omega arith)
+      subst
+          (λ (q : ℕ). Columns a.bitwidth a.side a.from a.i a.first a.step a.table.now (set t q u.result) grown (at n.table (a.from + n.j + 1)) (n.j + 2))
+          (omega arith)
           (subst (Columns a.bitwidth a.side a.from a.i a.first a.step a.table.now _ _ _) (omega arith) twice),
     )
 

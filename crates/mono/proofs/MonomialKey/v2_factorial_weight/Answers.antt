@@ -16,7 +16,8 @@ sum-requires-clause-fits c =
     let key = c.args.self.exponents in
     let first = c.in_ok-first.first.now in
     let whole : length key ≡ 20 = search rules in
-    let small = sum-fits _ first key c.in_ok-first.ensures.first whole weight (λ i. let byte : Fits w8 (at key i) = search rules in omega (arith, legendre (at key i))) in
+    let small = sum-fits _ first key c.in_ok-first.ensures.first whole weight
+    (λ i. let byte : Fits w8 (at key i) = search rules in omega (arith, legendre (at key i))) in
     fits_by_from_yields_list weight first c.map-twos.result _
     (YieldsList-from_map _ weight (YieldsList-from_slice first cc) c.map-twos.ensures.closure (λ x r q k. search (rules, tests)))
     small

@@ -1,5 +1,5 @@
 -- Twenty zeros are the table of the rule 0, by computation.
-use mathlib.Core.Path.{refl}
+use Rattle.std.specs.Prelude.{refl}
 use Rattle.meaning.specs.Tables.{tabulate}
 use Rattle.mono.proofs.MonomialKey.zero.Goals as goal
 

@@ -4,8 +4,8 @@ use Rattle.theory.specs.MovedLines.{moved_line}
 use Rattle.moves.proofs.FirstLines.{single_line}
 use Rattle.moves.proofs.first.move_first.Goals as goal
 
-pub returns-then-table-degree : goal.returns-then-table-degree
-returns-then-table-degree c =
+pub returns-then-table-lines : goal.returns-then-table-lines
+returns-then-table-lines c =
     let a = c.args in
-    let alone : length a.table.now ≡ suc a.degree = c.if-table-degree.true ∙ add-one _ in
-    c.move_long.ensures ∙ single_line (moved_line (2 ^ 64) a.offset) a.degree a.table.now alone
+    let alone : length a.table.now ≡ suc a.lines.degree = c.if-table-lines.true ∙ add-one _ in
+    c.move_long.ensures ∙ single_line (moved_line (2 ^ 64) a.lines.offset) a.lines.degree a.table.now alone

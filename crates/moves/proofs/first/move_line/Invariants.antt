@@ -7,7 +7,9 @@ use Rattle.moves.proofs.first.move_line.Given as goal
 
 abbrev pub invariant-loop-i : goal.invariant-loop-i
 invariant-loop-i l =
-    (length l.part ≡ length l.initial.part)
-    × Rows (2 ^ 64) l.offset 1 l.degree l.done l.i l.factor
-    × ((f : ℕ → ℕ) → Opened (2 ^ 64) (shift (2 ^ 64) l.offset) 1 l.degree f (length l.initial.part) (suc l.done) l.initial.part
-    → Opening (2 ^ 64) (shift (2 ^ 64) l.offset) 1 l.degree f (length l.initial.part) l.done l.i l.part)
+    let a = l.fn.lines.offset in
+    let d = l.fn.lines.degree in
+    (length l.part ≡ suc d)
+    × Rows (2 ^ 64) a 1 d l.done l.i l.factor
+    × ((f : ℕ → ℕ) → Opened (2 ^ 64) (shift (2 ^ 64) a) 1 d f (suc d) (suc l.done) l.initial.part
+    → Opening (2 ^ 64) (shift (2 ^ 64) a) 1 d f (suc d) l.done l.i l.part)

@@ -4,24 +4,21 @@ use Rattle.std.proofs.Common.{refl, ◌≡◌, ℕ, ◌+◌, ◌*◌, ◌<◌, �
 use Rattle.moves.specs.NodeRows.{added_start, added_near}
 use Rattle.moves.specs.NodePairs.{pairs_first, pairs_start, pairs_step, pairs_next, pairs_last}
 use Rattle.lines.specs.DivisionPasses.{sum_with_product}
+use Rattle.moves.proofs.FirstLines.{unit}
 use Rattle.moves.proofs.first.move_line_pair.Goals as goal
-
--- a line is a block of stride 1
-unit : (d : ℕ) → d ≡ 1 * d
-unit d = omega arith
 
 pub loop-i-init : goal.loop-i-init
 loop-i-init c = (
   c.add_number.ensures.same ∙ c.requires.1,
   omega (arith, c.requires.0),
-  pairs_start c.args.offset (pow_pos 64) c.requires.0 (unit _) c.wrapping_sub-first.ensures
+  pairs_start c.args.lines.offset (pow_pos 64) c.requires.0 (unit _) c.wrapping_sub-first.ensures
       refl refl c.wrapping_mul-far.ensures,
   λ f r. r,
 )
 
 pub loop-i-preserved : goal.loop-i-preserved
 loop-i-preserved c =
-    let h : c.loop-i.i + 1 < 1 * c.args.degree = omega (arith, c.requires.1, c.loop-i-test.true) in (
+    let h : c.loop-i.i + 1 < 1 * c.args.lines.degree = omega (arith, c.requires.1, c.loop-i-test.true) in (
       c.add_number-in-loop-i.ensures.same ∙ c.loop-i.invariant.0,
       omega arith,
       pairs_step (pow_pos 64) c.loop-i.invariant.2 h refl refl,
@@ -38,6 +35,6 @@ returns c =
     λ f r.
     pairs_last (pow_pos 64) (rw here at c.loop-i.invariant.2) (zero-lt-suc 0) (unit _) (omega (arith, c.requires.1))
     (rw here at (c.loop-i.invariant.3 f
-    (pairs_first c.args.offset (pow_pos 64) (zero-lt-suc 0) (unit _) c.requires.0 (unit _) c.wrapping_sub-first.ensures
+    (pairs_first c.args.lines.offset (pow_pos 64) (zero-lt-suc 0) (unit _) c.requires.0 (unit _) c.wrapping_sub-first.ensures
     c.wrapping_sub.ensures c.wrapping_mul.ensures r c.add_number.ensures)))
     added

@@ -5,7 +5,7 @@ use Rattle.lines.specs.Neighbours.{Neighbours}
 use Rattle.moves.proofs.first.move_parts.Given as goal
 
 abbrev pub invariant-loop-table : goal.invariant-loop-table
-invariant-loop-table l = (l.from < length l.table) × Neighbours (moved_line (2 ^ 64) l.offset) l.degree l.initial.table l.table l.from
+invariant-loop-table l = (l.from < length l.table) × Neighbours (moved_line (2 ^ 64) l.lines.offset) l.lines.degree l.initial.table l.table l.from
 
 abbrev pub decreases-loop-table : goal.decreases-loop-table
 decreases-loop-table l = length l.initial.table - l.from

@@ -31,10 +31,13 @@ returns-then-degrees-eq1 c =
 pub invariant_of-tables : goal.invariant_of-tables
 invariant_of-tables c =
     let alone : Rowed 0 c.args.degrees.now _ = rowed_alone c.args.degrees.now in
-    record { serve = inverses_of 16 c.first_inverses-inverses.result c.first_inverses-inverses.ensures; masked = alone.room; laid = alone.laid; room = alone.room; inverts = alone_inverts }
-
-pub boxes-requires-clause-reach : goal.boxes-requires-clause-reach
-boxes-requires-clause-reach c = rw (sixteen (goal.at.boxes-requires-clause-reach c).After-first_inverses-inverses) c.requires.2
+    record {
+      serve = inverses_of 16 c.first_inverses-inverses.result c.first_inverses-inverses.ensures;
+      masked = alone.room;
+      laid = alone.laid;
+      room = alone.room;
+      inverts = alone_inverts;
+    }
 
 pub returns : goal.returns
 returns c =

@@ -2,9 +2,9 @@
 use Rattle.std.proofs.Common.{◌≡◌, ◌≤◌, length, take, replicate, sym, refl, ap, ◌∙◌, arith, length-take-le}
 use Rattle.meaning.specs.Boxes.{cells}
 use Rattle.theory.specs.Tables.{length-tabulate}
-use Rattle.box_rows.specs.Rows.{Rowed, rows_laid}
+use Rattle.box_rows.specs.Rows.{Rowed, row_variables, rows_laid, rows_counted}
 use Rattle.multivar_poly_recovery.specs.Extracted.{Reaching}
-use Rattle.multivar_poly_recovery.proofs.Servings.{inverses_of, reaching_take}
+use Rattle.multivar_poly_recovery.proofs.Servings.{inverses_of, row_inverted}
 use Rattle.multivar_poly_recovery.proofs.Whole.{promise_whole}
 use Rattle.multivar_poly_recovery.proofs.extraction.by_rows.Goals as goal
 use Rattle.multivar_poly_recovery.proofs.extraction.by_rows.Goals.{After-unwrap-first}
@@ -12,6 +12,9 @@ use Rattle.multivar_poly_recovery.proofs.extraction.by_rows.Goals.{After-unwrap-
 -- the rows, and how many cells a row has
 rows : (c : After-unwrap-first) → Rowed c.unwrap-first.result c.args.degrees.now c.lay_out.new.masks
 rows c = rows_laid _ (replicate 256 0) _ _ refl (sym c.unwrap-first.ensures ∙ c.lay_out.ensures.variables) c.lay_out.ensures.masks
+
+counted : (c : After-unwrap-first) → c.unwrap-first.result ≡ row_variables 1 c.args.degrees.now
+counted c = rows_counted _ (replicate 256 0) _ refl (sym c.unwrap-first.ensures ∙ c.lay_out.ensures.variables)
 
 small : (c : After-unwrap-first) → cells (take c.unwrap-first.result c.args.degrees.now) ≤ 256
 small c = omega (arith, (rows c).room, c.lay_out.auto.masks)
@@ -25,27 +28,20 @@ bytes c =
 pub slice_bounds-row-end : goal.slice_bounds-row-end
 slice_bounds-row-end c = sym (length-take-le _ _ (rows (goal.at.slice_bounds-row-end c).After-unwrap-first).within)
 
-pub invariant_of-lay_out : goal.invariant_of-lay_out
-invariant_of-lay_out c = record { serve = inverses_of 256 c.odd_factorial_inverses-inverses.result c.odd_factorial_inverses-inverses.ensures.table }
-
-pub lay_out-requires-2 : goal.lay_out-requires-2
-lay_out-requires-2 c =
-    let k = (goal.at.lay_out-requires-2 c).After-unwrap-first in
-    (small k, reaching_take _ _ _ (rows k).within (bytes k))
+pub invariant_of-lay_out_numbers : goal.invariant_of-lay_out_numbers
+invariant_of-lay_out_numbers c = record { serve = inverses_of 256 c.odd_factorial_inverses-inverses.result c.odd_factorial_inverses-inverses.ensures.table }
 
 pub invariant_of-tables : goal.invariant_of-tables
 invariant_of-tables c =
     let k = (goal.at.invariant_of-tables c).After-unwrap-first in
+    let serve = inverses_of 256 c.odd_factorial_inverses-inverses.result c.odd_factorial_inverses-inverses.ensures.table in
     record {
-      serve = inverses_of 256 c.odd_factorial_inverses-inverses.result c.odd_factorial_inverses-inverses.ensures.table;
+      serve = serve;
       masked = (rows k).room;
       laid = (rows k).laid;
-      room = omega (arith, small k, c.lay_out-2.auto.units);
-      inverts = c.lay_out-2.ensures;
+      room = omega (arith, small k, c.lay_out_numbers.auto.table);
+      inverts = row_inverted _ serve _ (replicate 256 0) _ _ (counted k) (bytes k) refl c.lay_out_numbers.ensures.numbers;
     }
-
-pub boxes-requires-clause-reach : goal.boxes-requires-clause-reach
-boxes-requires-clause-reach c = bytes (goal.at.boxes-requires-clause-reach c).After-unwrap-first
 
 pub returns : goal.returns
 returns c =

@@ -1,7 +1,7 @@
 use Rattle.std.proofs.Common.{refl, arith}
 use Rattle.theory.specs.LastVariable.{length-others}
-use Rattle.box_rows.specs.Walks.{walk_start, walk_fits, walk_left, walk_over, walk_next}
-use Rattle.poly.proofs.BoxValues.{line-fits, line-value, last_end, others-fit, shaped_others, exponent_below}
+use Rattle.box_rows.specs.Walks.{walk_start, walk_left, walk_over, walk_next}
+use Rattle.poly.proofs.BoxValues.{line-fits, line-value, others-fit, shaped_others}
 use Rattle.poly.proofs.BoxValues.{summed_start, summed_next, summed_stop, summed_done}
 use Rattle.poly.proofs.cells.+box_value.Goals as goal
 
@@ -17,24 +17,20 @@ loop-e-init t c =
     let p = c.requires.shaped in
     (walk_start _ _ p.some p.whole, summed_start)
 
--- the place of the falling product
-pub bounds-products-row : goal.bounds-products-row
-bounds-products-row t c =
-    let p = c.requires.shaped in
-    omega (arith, last_end p c.requires.size_in_bounds, exponent_below p c.loop-e.invariant.0 (walk_left c.loop-e.invariant.0 (omega (arith, c.loop-e-test.true))))
-
 pub returns-then-falling-eq0 : goal.returns-then-falling-eq0
 returns-then-falling-eq0 t c =
-    summed_stop c.requires.shaped c.loop-e.invariant.0 c.loop-e.invariant.1 (walk_left c.loop-e.invariant.0 (omega (arith, c.loop-e-test.true))) c.if-falling-eq0.true
-
-pub slice_bounds-box_value-end : goal.slice_bounds-box_value-end
-slice_bounds-box_value-end t c = walk_fits c.loop-e.invariant.0 (walk_left c.loop-e.invariant.0 (omega (arith, c.loop-e-test.true)))
+    let i = c.loop-e.invariant in
+    summed_stop c.requires.shaped i.0 i.1 (walk_left i.0 (omega (arith, c.loop-e-test.true))) c.if-falling-eq0.true
 
 pub box_value-inner-requires : goal.box_value-inner-requires
 box_value-inner-requires t c =
-    let p = c.requires.shaped in (
+    let p = c.requires.shaped in
+    let w = c.loop-e.invariant.0 in (
       omega (arith, length-others c.args.degrees.now p.some, c.decreases, p.some),
-      (shaped_others p c.loop-e.invariant.0 (walk_left c.loop-e.invariant.0 (omega (arith, c.loop-e-test.true))) refl c.if-degrees-eq1.false, others-fit p c.requires.size_in_bounds),
+      (
+        shaped_others p w (walk_left w (omega (arith, c.loop-e-test.true))) refl c.if-degrees-eq1.false,
+        others-fit p c.requires.size_in_bounds,
+      ),
     )
 
 pub loop-e-preserved : goal.loop-e-preserved

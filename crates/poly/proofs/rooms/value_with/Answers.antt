@@ -1,6 +1,6 @@
 -- The table has the falling products of the point, so that the low bits of what the walk says are the value.
 use Rattle.std.proofs.Common.{ap, ◌∙◌, arith}
-use lib.Bits.{bit_and}
+use Rattle.std.specs.Int.Bits.{bit_and}
 use Rattle.theory.specs.Ranges.{width_high}
 use Rattle.theory.specs.Words.{masked_low}
 use Rattle.poly.proofs.rooms.value_with.Goals as goal

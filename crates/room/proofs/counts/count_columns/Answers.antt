@@ -1,9 +1,5 @@
 -- No variable has one list; else by the largest sum.
-use mathlib.Core.Path.{◌≡◌, sym}
-use mathlib.Core.List.{List, [], ◌∷◌}
-use Prim.Native.Nat.{ℕ}
-use native.Mathlib.Nat.{suc-ne-zero}
-use lib.ListN.{length}
+use Rattle.std.proofs.Common.{◌≡◌, sym, List, [], ◌∷◌, ℕ, suc-ne-zero, length}
 use Rattle.meaning.specs.Fit.{columns}
 use Rattle.theory.specs.ColumnCount.{count_none}
 use Rattle.room.proofs.counts.count_columns.Goals as goal

@@ -1,10 +1,5 @@
 -- The last variable is counted first. Then the loop keeps: the counts are those of the variables from i on. Each turn takes the variable before them.
-use mathlib.Core.Path.{◌≡◌, refl, sym, ap, ◌∙◌}
-use mathlib.Core.List.{List}
-use Prim.Native.Nat.{ℕ, suc, ◌-◌, ◌≤◌, ◌<◌, min}
-use native.Mathlib.Nat.{le_trans, le_of_eq}
-use native.Mathlib.Omega.{arith}
-use lib.ListN.{length, drop}
+use Rattle.std.proofs.Common.{◌≡◌, refl, sym, ap, ◌∙◌, List, ℕ, suc, ◌-◌, ◌≤◌, ◌<◌, min, le_trans, le_of_eq, arith, length, drop}
 use Rattle.meaning.specs.Tables.{tabulate, at}
 use Rattle.meaning.specs.Sums.{sum}
 use Rattle.meaning.specs.Boxes.{cells}
@@ -41,7 +36,7 @@ module _ (ds now : List ℕ) (n i : ℕ) (known : now ≡ list_counts ds n i) wh
 
 pub loop-i-init : goal.loop-i-init
 loop-i-init c = (
-  last-counted c.args.degrees.now _ (length c.args.counts.now) (length c.args.next.now) c.requires.0 c.requires.3 c.count_one.ensures,
+  last-counted c.args.degrees.now _ (length c.args.counts.now) (length c.args.next.now) c.requires.0 c.requires.2 c.count_one.ensures,
   refl,
 )
 
@@ -49,11 +44,8 @@ pub add_variable-requires : goal.add_variable-requires
 add_variable-requires c =
     let ds = c.args.degrees.now in
     let n = length c.args.next.now in
-    let l = long ds c.loop-i.counts n c.loop-i.i c.loop-i.invariant.0 in (
-      c.loop-i.invariant.1 ∙ sym l,
-      le_trans (le_of_eq (l ∙ c.requires.0)) c.requires.1,
-      low ds c.loop-i.counts n c.loop-i.i c.loop-i.invariant.0 c.requires.2,
-    )
+    let known = c.loop-i.invariant.0 in
+    (c.loop-i.invariant.1 ∙ sym (long ds c.loop-i.counts n c.loop-i.i known), low ds c.loop-i.counts n c.loop-i.i known c.requires.1)
 
 pub loop-i-preserved : goal.loop-i-preserved
 loop-i-preserved c = (

@@ -1,6 +1,5 @@
 -- The last variable is counted first. Then the loop keeps: the counts are those of the variables from i on. Each turn takes the variable before them.
-use mathlib.Core.Path.{◌≡◌}
-use lib.ListN.{length}
+use Rattle.std.proofs.Common.{◌≡◌, length}
 use Rattle.room.proofs.RunningSums.{list_counts}
 use Rattle.room.proofs.counts.count_lists.Given as goal
 

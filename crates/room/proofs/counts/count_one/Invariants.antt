@@ -1,5 +1,5 @@
 -- The loop: the places before s have their counts, the others are as they were.
-use Prim.Native.Nat.{suc, min}
+use Rattle.std.proofs.Common.{suc, min}
 use Rattle.theory.specs.Tables.{Filled}
 use Rattle.room.proofs.counts.count_one.Given as goal
 

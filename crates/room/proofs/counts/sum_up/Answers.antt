@@ -1,9 +1,5 @@
 -- The loop keeps: the counts before place s are written, and the running sum is that of the counts before it.
-use mathlib.Core.Path.{sym, ap, ap₂, ◌∙◌}
-use Prim.Native.Nat.{ℕ, ◌+◌, ◌*◌, ◌-◌, ◌≤◌, ◌<◌}
-use native.Mathlib.Numerals.{add-one}
-use native.Mathlib.Omega.{arith}
-use lib.ListN.{length}
+use Rattle.std.proofs.Common.{sym, ap, ap₂, ◌∙◌, ℕ, ◌+◌, ◌-◌, add-one, arith}
 use Rattle.meaning.specs.Tables.{at}
 use Rattle.theory.specs.Tables.{filled_start, filled_step, filled_done}
 use Rattle.room.proofs.RunningSums.{recent, recent-start, recent_whole, recent_next, leaves-le, recent-le}
@@ -16,10 +12,7 @@ pub overflow_add-running : goal.overflow_add-running
 overflow_add-running c =
     let kept = c.loop-s.invariant in
     let s = c.loop-s.s in
-    let sum-le : c.loop-s.running ≤ s * 65536 =
-    omega (arith, kept.goes_along, recent-le c.args.degree (at c.args.counts.now) 65536 c.requires.2 s) in
-    let within : s < length c.args.counts.now = omega (arith, kept.written.same, c.loop-s-test.true, c.requires.0) in
-    record { fits = omega (arith, sum-le, c.requires.2 s, within, c.requires.1) }
+    record { fits = omega (arith, kept.goes_along, recent-le c.args.degree (at c.args.counts.now) 65536 c.requires.1 s, c.requires.1 s, c.ranges.degree) }
 
 pub overflow_sub-running : goal.overflow_sub-running
 overflow_sub-running c =

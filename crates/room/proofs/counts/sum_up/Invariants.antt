@@ -1,7 +1,5 @@
 -- The loop keeps: the counts before place s are written, and the running sum is that of the counts before it.
-use mathlib.Core.Path.{◌≡◌}
-use mathlib.Core.List.{List}
-use Prim.Native.Nat.{ℕ, suc, ◌-◌, min}
+use Rattle.std.proofs.Common.{◌≡◌, List, ℕ, suc, ◌-◌, min}
 use Rattle.meaning.specs.Tables.{at}
 use Rattle.meaning.specs.Sums.{sum}
 use Rattle.theory.specs.Tables.{Filled}

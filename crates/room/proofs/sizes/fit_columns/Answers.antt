@@ -1,7 +1,5 @@
 -- The room says the number and the columns.
-use mathlib.Core.Path.{sym, ap, ◌∙◌}
-use Prim.Native.Nat.{ℕ}
-use lib.ListN.{length}
+use Rattle.std.proofs.Common.{sym, ap, ◌∙◌, ℕ, length}
 use Rattle.meaning.specs.Replies.{accepted}
 use Rattle.meaning.specs.Calls.{reply}
 use Rattle.meaning.specs.Fit.{fit_columns_of}

@@ -1,12 +1,5 @@
 -- The settings of the grid decide first; where they pass the answer's box has no more cells than the grid, and its columns are counted.
-use mathlib.Core.Path.{◌≡◌, sym, ap, ap₂, subst, ◌∙◌}
-use mathlib.Core.Bool.{false}
-use mathlib.Core.List.{List}
-use Prim.Native.Nat.{ℕ, ◌*◌, ◌≤◌, ◌<◌}
-use native.Mathlib.Nat.{mul-le-mul, le_trans, le_of_eq}
-use native.Mathlib.Omega.{arith}
-use lib.ListN.{length}
-use Rattle.std.proofs.Common.{Result, Ok, Err}
+use Rattle.std.proofs.Common.{◌≡◌, sym, ap, ap₂, subst, ◌∙◌, false, List, ℕ, ◌*◌, ◌≤◌, ◌<◌, mul-le-mul, le_trans, le_of_eq, arith, length, Result, Ok, Err}
 use Rattle.meaning.specs.Boxes.{cells}
 use Rattle.meaning.specs.Settings.{table_limit, fits_width, cube}
 use Rattle.meaning.specs.Calls.{settings_reply}
@@ -26,6 +19,7 @@ use Rattle.room.specs.Sizes.{fit_asked, grid_of, fit_room_told, fit_room_said}
 use Rattle.room.specs.SizeLaws.{lent_degrees}
 use Rattle.room.specs.FitPromises.{FitCosts}
 use Rattle.room.proofs.FitRooms.{size_turned, size_large, size_passed, fit_room_turned, fit_room_passed, fit_costs}
+use Rattle.room.proofs.sizes.fit_room.Goals.{After-as_slice}
 use Rattle.room.proofs.sizes.fit_room.Goals as goal
 
 module _ (s : FitSettings) where
@@ -42,7 +36,8 @@ module _ (s : FitSettings) where
     unfolding settings_reply
     turned {r} e =
         fit_room_turned (fit_asked s) r
-        (size_turned (fit_asked s) r (unsettled false s.total (fits_width s.bitwidth) s.support.now (cube s.support.now s.grid_degree) (rw is at checks) e).refuses)
+        (size_turned (fit_asked s) r
+        (unsettled false s.total (fits_width s.bitwidth) s.support.now (cube s.support.now s.grid_degree) (rw is at checks) e).refuses)
 
     -- they pass, with as many cells as they say
     module _ {rows : ℕ} (e : answer ≡ Ok rows) where
@@ -56,16 +51,16 @@ module _ (s : FitSettings) where
       rows-le : rows ≤ 65536
       rows-le = le_trans (le_of_eq ok.counted) (settings-cells-le table_limit _ _ _ _ _ ok.passes)
 
-      module _ {ds : List ℕ} (lent : ds ≡ (fit_asked s).degrees) where
+      module _ {ds : List ℕ} (box : ds ≡ (fit_asked s).degrees) where
         box-le : cells ds ≤ 65536
         box-le =
-            le_trans (le_of_eq (ap cells lent))
+            le_trans (le_of_eq (ap cells box))
             (le_trans (cells-cube-le (length s.support.now) s.max_degree s.grid_degree) (settings-cells-le table_limit _ _ _ _ _ ok.passes))
 
         -- the columns and the entries of the matrix
         module _ {c : ℕ} (q : c ≡ length (columns ds s.max_degree)) where
           counted : c ≡ length (fit_columns_of (fit_asked s))
-          counted = q ∙ ap (λ (ds : List ℕ). length (columns ds s.max_degree)) lent
+          counted = q ∙ ap (λ (ds : List ℕ). length (columns ds s.max_degree)) box
 
           columns-le : c ≤ 65536
           columns-le = le_trans (le_of_eq q) (le_trans (columns-le-cells ds s.max_degree) box-le)
@@ -82,34 +77,37 @@ module _ (s : FitSettings) where
           passed : rows * c ≤ 65536 → fit_room_told 0 rows c (rows * c) ≡ fit_room_lem (fit_asked s)
           passed h = fit_room_passed (fit_asked s) _ _ (size_passed (fit_asked s) ok.passes (omega (arith, entries))) ok.counted counted
 
-pub returns-in_err-rows : goal.returns-in_err-rows
-returns-in_err-rows c =
-    let s = c.args.settings.now in
-    let says = ap fit_room_said (handed_on _ c.from_residual.ensures.1) ∙ turned s c.grid.ensures c.check.ensures c.in_err-rows.was in
-    record { says = says; costs = costs_of s says }
+-- the degrees of the answer's box are lent
+lent : (c : After-as_slice) → c.as_slice.result.now ≡ (fit_asked c.args.settings.now).degrees
+lent c =
+    c.as_slice.ensures
+    ∙ lent_degrees c.answer.ensures c.degrees-degrees.ensures.all (short c.args.settings.now c.grid.ensures c.check.ensures c.in_ok-rows.was)
+
+pub returns-in_err-rows-clause-says : goal.returns-in_err-rows-clause-says
+returns-in_err-rows-clause-says c =
+    ap fit_room_said (handed_on _ c.from_residual.ensures.1) ∙ turned c.args.settings.now c.grid.ensures c.check.ensures c.in_err-rows.was
 
 pub count_columns-columns-requires : goal.count_columns-columns-requires
 count_columns-columns-requires c =
     let s = c.args.settings.now in
-    let lent = c.as_slice.ensures ∙ lent_degrees c.answer.ensures c.degrees-degrees.ensures.all (short s c.grid.ensures c.check.ensures c.in_ok-rows.was) in
-    box-le s c.grid.ensures c.check.ensures c.in_ok-rows.was lent
+    let box = lent (goal.at.count_columns-columns-requires c).After-as_slice in
+    box-le s c.grid.ensures c.check.ensures c.in_ok-rows.was box
 
 pub overflow_mul-entries : goal.overflow_mul-entries
 overflow_mul-entries c =
     let s = c.args.settings.now in
-    let lent = c.as_slice.ensures ∙ lent_degrees c.answer.ensures c.degrees-degrees.ensures.all (short s c.grid.ensures c.check.ensures c.in_ok-rows.was) in
-    record { fits = omega (arith, entries-le s c.grid.ensures c.check.ensures c.in_ok-rows.was lent c.count_columns-columns.ensures) }
+    let box = lent (goal.at.overflow_mul-entries c).After-as_slice in
+    record { fits = omega (arith, entries-le s c.grid.ensures c.check.ensures c.in_ok-rows.was box c.count_columns-columns.ensures) }
 
-pub returns-then-entries : goal.returns-then-entries
-returns-then-entries c =
+pub returns-then-entries-clause-says : goal.returns-then-entries-clause-says
+returns-then-entries-clause-says c =
     let s = c.args.settings.now in
-    let lent = c.as_slice.ensures ∙ lent_degrees c.answer.ensures c.degrees-degrees.ensures.all (short s c.grid.ensures c.check.ensures c.in_ok-rows.was) in
-    let says = large s c.grid.ensures c.check.ensures c.in_ok-rows.was lent c.count_columns-columns.ensures c.if-entries.true in
-    record { says = says; costs = costs_of s says }
+    let box = lent (goal.at.returns-then-entries-clause-says c).After-as_slice in
+    large s c.grid.ensures c.check.ensures c.in_ok-rows.was box c.count_columns-columns.ensures c.if-entries.true
 
 pub returns : goal.returns
 returns c =
     let s = c.args.settings.now in
-    let lent = c.as_slice.ensures ∙ lent_degrees c.answer.ensures c.degrees-degrees.ensures.all (short s c.grid.ensures c.check.ensures c.in_ok-rows.was) in
-    let says = passed s c.grid.ensures c.check.ensures c.in_ok-rows.was lent c.count_columns-columns.ensures c.if-entries.false in
+    let box = lent (goal.at.returns c).After-as_slice in
+    let says = passed s c.grid.ensures c.check.ensures c.in_ok-rows.was box c.count_columns-columns.ensures c.if-entries.false in
     record { says = says; costs = costs_of s says }

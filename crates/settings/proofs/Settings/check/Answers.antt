@@ -1,6 +1,6 @@
 -- The check of settings at the test of the width.
-use mathlib.Core.Path.{◌∙◌, ap}
-use mathlib.Core.Bool.{Bool}
+use Rattle.std.specs.Prelude.{Bool}
+use Rattle.std.proofs.Common.{◌∙◌, ap}
 use Rattle.meaning.specs.Boxes.{cells}
 use Rattle.meaning.specs.Settings.{table_limit, limited_number}
 use Rattle.meaning.specs.Calls.{reply, settings_reply}

@@ -1,6 +1,6 @@
 -- Settings, then the length.
-use mathlib.Core.Path.{◌∙◌, sym, ap}
-use mathlib.Core.Bool.{Bool, cond}
+use Rattle.std.specs.Prelude.{Bool, cond}
+use Rattle.std.proofs.Common.{◌∙◌, sym, ap}
 use borrow.Author.Tests.{eq-eqb, ne_eqb}
 use Rattle.answers.specs.Said.{said_number}
 use Rattle.answers.specs.Laws.{handed_on}

@@ -1,6 +1,6 @@
 -- A refusal of the settings is passed on. Where they pass they count the cells, and both lengths are held against the count, first `given`, then `out`.
-use mathlib.Core.Path.{◌∙◌, sym, ap, ap₂}
-use mathlib.Core.Bool.{Bool, ◌&&◌, cond}
+use Rattle.std.specs.Prelude.{Bool, ◌&&◌, cond}
+use Rattle.std.proofs.Common.{◌∙◌, sym, ap, ap₂}
 use borrow.Author.Tests.{eq-eqb, ne_eqb}
 use Rattle.answers.specs.Said.{said_number}
 use Rattle.answers.specs.Laws.{handed_on}

@@ -1,11 +1,6 @@
 -- The support is checked first; where it passes it has at most twenty indices, and the degrees are a part of twenty copies.
-use mathlib.Core.Path.{◌≡◌, refl, ◌∙◌, sym, ap, ap₂}
-use mathlib.Core.Bool.{Bool, ◌&&◌, cond}
-use Prim.Native.Nat.{ℕ, zero, suc, ◌+◌, ◌≤◌, min}
-use lib.ListN.{length}
-use lib.Dec.{eqb, ltb}
-use mathlib.Core.List.{List}
-use native.Mathlib.Omega.{arith}
+use Rattle.std.specs.Prelude.{◌≡◌, refl, Bool, ◌&&◌, cond, ℕ, zero, suc, ◌+◌, ◌≤◌, min, length, eqb, ltb, List}
+use Rattle.std.proofs.Common.{◌∙◌, sym, ap, ap₂, arith}
 use borrow.Author.Tests.{lt-ltb, le-ltb, ne_eqb}
 use Rattle.meaning.specs.Boxes.{cells}
 use Rattle.meaning.specs.Replies.{accepted}

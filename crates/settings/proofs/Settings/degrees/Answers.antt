@@ -1,9 +1,9 @@
 -- As many copies of the degree as there are support variables, cut at twenty.
 use Rattle.std.proofs.Common.{ℕ, ◌≤◌, ◌≡◌, min, length, replicate, take, sym, ap, ◌∙◌, arith}
 use Rattle.std.proofs.lemmas.List.{take-replicate, take_all}
-use lib.ListN.{length-replicate}
-use native.Mathlib.Nat.{min-eq_left, min-eq_right}
-use native.Mathlib.Decide.{dec_le}
+use Rattle.std.proofs.Math.ListN.{length-replicate}
+use Rattle.std.proofs.Math.Nat.{min-eq_left, min-eq_right}
+use Rattle.std.proofs.Math.Decide.{dec_le}
 use Rattle.settings.proofs.Settings.degrees.Goals as goal
 
 few : (n d : ℕ) → n ≤ 20 → replicate (min n 20) d ≡ replicate n d

@@ -2,7 +2,7 @@
 use Rattle.std.proofs.Common.{rules, tests, sym, ◌∙◌}
 use Rattle.std.proofs.lemmas.Iterator.{YieldsList-from_slice}
 use Rattle.std.proofs.lemmas.Iterator.Search.{any_from_yields_List}
-use lib.Dec.{leb}
+use Rattle.std.specs.Prelude.{leb}
 use Rattle.settings.specs.Indices.{some-any}
 use Rattle.settings.proofs.support.index_past.Goals as goal
 

@@ -1,9 +1,7 @@
 -- The loop keeps: some index stands twice exactly when one of the part from i on is marked or stands twice in it. An index is below 20, so that it has a mark.
-use mathlib.Core.Path.{◌∙◌, sym, refl}
-use lib.Dec.{leb}
-use lib.ListN.{length-set}
+use Rattle.std.specs.Prelude.{refl, leb}
+use Rattle.std.proofs.Common.{◌∙◌, sym, length-set, arith}
 use borrow.Author.Tests.{leb-false}
-use native.Mathlib.Omega.{arith}
 use Rattle.settings.specs.Indices.{some-false-at, again-start, again-found, again_next, again-end}
 use Rattle.settings.proofs.support.index_twice.Goals as goal
 

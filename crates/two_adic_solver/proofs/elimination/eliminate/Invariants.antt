@@ -6,10 +6,10 @@ abbrev pub invariant-loop-column : goal.invariant-loop-column
 invariant-loop-column g l =
     let m = g.S.System in
     let s = l.initial.system in
+    let t = l.system in
     record {
-      same : m.same s l.system;
-      whole : m.whole l.system;
+      same : m.same s t;
       passed :
-          Passed (m.width s) (m.columns s) (m.entries s) (m.right s) l.initial.used l.initial.answer
-          (m.entries l.system) (m.right l.system) l.used l.answer l.column;
+          Passed (m.width s) (m.columns s) (m.entries s) (m.right s) (m.used s) l.initial.answer
+          (m.entries t) (m.right t) (m.used t) l.answer l.column;
     }

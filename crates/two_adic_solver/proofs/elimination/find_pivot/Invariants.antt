@@ -7,4 +7,5 @@ use Rattle.two_adic_solver.proofs.elimination.find_pivot.Given as goal
 abbrev pub invariant-loop-row : goal.invariant-loop-row
 invariant-loop-row g l =
     let m = g.S.System in
-    Searched (m.width l.system) (length (m.right l.system)) (height_of (m.width l.system) (m.columns l.system) (m.entries l.system) l.used l.column) l.found l.least l.row
+    let s = l.system in
+    Searched (m.width s) (length (m.right s)) (height_of (m.width s) (m.columns s) (m.entries s) (m.used s) l.column) l.found l.least l.row

@@ -3,4 +3,4 @@ use Rattle.two_adic_solver.proofs.FixedLaws.{RowsReduced}
 use Rattle.two_adic_solver.proofs.square.reduce_rows.Given as goal
 
 abbrev pub invariant-loop-row : goal.invariant-loop-row
-invariant-loop-row l = RowsReduced l.bitwidth l.initial.matrix l.matrix l.row-index
+invariant-loop-row l = RowsReduced l.width.bits l.initial.matrix l.matrix l.row-index

@@ -8,5 +8,6 @@ use Rattle.two_adic_solver.proofs.substitution.pivots_found.Goals as goal
 pub returns : goal.returns
 returns c =
     let a = c.args in
-    let tested = all_from_yields_List (λ row. nat_lt row a.rows) _ _ c.all.result c.all.ensures.ran (YieldsList-from_slice a.pivots.now cc) (λ x b q k. search (rules, tests)) in
+    let tested = all_from_yields_List (λ row. nat_lt row a.rows) _ _ c.all.result c.all.ensures.ran
+    (YieldsList-from_slice a.pivots.now cc) (λ x b q k. search (rules, tests)) in
     tested ∙ every_list _ a.pivots.now

@@ -7,5 +7,6 @@ returns g c =
     let a = c.args in
     let p = c.requires in
     let laws = g.met.S.System in
-    rest_computed _ _ _ _ _ a.answer.now a.row a.column c.dot-known.result _ (laws.whole_length _ p.0)
-    p.3 p.2 p.1 (laws.whole_width _ p.0) (rw (c.behind.ensures, p.1) at c.dot-known.ensures) (rw (c.right.ensures, c.width.ensures) at c.mod_sub.ensures)
+    rest_computed _ _ _ _ _ a.answer.now a.row a.column c.dot-known.result _ (laws.whole _)
+    p.2 p.1 p.0 (rw c.width.ensures at c.width.result.fits) (rw (c.behind.ensures, p.0) at c.dot-known.ensures)
+    (rw (c.right.ensures, c.width.ensures) at c.mod_sub.ensures)

@@ -6,7 +6,7 @@ use Rattle.two_adic_solver.proofs.SubstitutionLaws.{substituting_start, substitu
 use Rattle.two_adic_solver.proofs.substitution.substitute.Goals as goal
 
 pub loop-column-init : goal.loop-column-init
-loop-column-init g c = rw c.columns-column.ensures (substituting_start _ _ _ _ _ c.requires.whole.1)
+loop-column-init g c = rw c.columns-column.ensures (substituting_start _ _ _ _ _ c.requires.sizes)
 
 pub returns-in_err-answer-clause-substituted : goal.returns-in_err-answer-clause-substituted
 returns-in_err-answer-clause-substituted g c =

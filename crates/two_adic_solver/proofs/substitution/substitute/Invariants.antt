@@ -3,4 +3,7 @@ use Rattle.two_adic_solver.proofs.SubstitutionLaws.{Substituting}
 use Rattle.two_adic_solver.proofs.substitution.substitute.Given as goal
 
 abbrev pub invariant-loop-column : goal.invariant-loop-column
-invariant-loop-column g l = let m = g.S.System in Substituting (m.width l.system) (m.columns l.system) l.initial.answer (m.entries l.system) (m.right l.system) l.answer l.column
+invariant-loop-column g l =
+    let m = g.S.System in
+    let s = l.system in
+    Substituting (m.width s) (m.columns s) l.initial.answer (m.entries s) (m.right s) l.answer l.column

@@ -4,7 +4,9 @@ use Rattle.two_adic_solver.proofs.PartLaws.{Parted}
 use Rattle.two_adic_solver.proofs.table.clear_in_parts.Given as goal
 
 abbrev pub invariant-loop-end : goal.invariant-loop-end
-invariant-loop-end l = Parted l.bitwidth l.columns l.column l.row l.used l.initial.entries l.initial.right l.entries l.right l.side l.end × (length l.room ≡ length l.initial.room)
+invariant-loop-end l =
+    Parted l.fn.width.bits l.columns l.column l.row l.used l.initial.entries l.initial.right l.entries l.right l.side l.end
+    × (length l.room ≡ length l.initial.room)
 
 abbrev pub decreases-loop-end : goal.decreases-loop-end
 decreases-loop-end l = l.end - l.column

@@ -4,4 +4,7 @@ use Rattle.two_adic_solver.proofs.RowLoops.{Next, Cleared}
 use Rattle.two_adic_solver.proofs.table.clear_part.Given as goal
 
 abbrev pub invariant-loop-row : goal.invariant-loop-row
-invariant-loop-row l = Cleared l.pivot.bitwidth l.columns l.pivot.column l.from (Next l.pivot.bitwidth l.columns l.pivot.column l.pivot.row l.end l.side l.pivot.twos l.pivot.inverse l.used l.initial.entries l.initial.right) l.initial.entries l.initial.right l.entries l.right l.row
+invariant-loop-row l =
+    let p = l.pivot in
+    let next = Next p.width.bits l.columns p.column p.row l.end l.side p.twos p.inverse l.used l.initial.entries l.initial.right in
+    Cleared p.width.bits l.columns p.column l.from next l.initial.entries l.initial.right l.entries l.right l.row

@@ -11,7 +11,8 @@ pub sum-requires-clause-fits : goal.sum-requires-clause-fits
 sum-requires-clause-fits c =
     let es = c.args.exps.now in
     fits_by_from_yields_list (λ e. twos (factorial e)) es c.map.result (2 ^ 32)
-    (YieldsList-from_map _ (λ e. twos (factorial e)) (YieldsList-at c.map.ensures.source (YieldsList-from_slice es cc)) c.map.ensures.closure (λ x r q k. search rules))
+    (YieldsList-from_map _ (λ e. twos (factorial e)) (YieldsList-at c.map.ensures.source (YieldsList-from_slice es cc)) c.map.ensures.closure
+    (λ x r q k. search rules))
     (omega (arith, twos_few es (λ i. omega (arith, c.type_inv.exps i)), c.requires))
 
 pub returns : goal.returns

@@ -27,7 +27,8 @@ returns-then-degrees-eq0 t c =
 pub loop-e-init : goal.loop-e-init
 loop-e-init t c =
     let p = c.requires in
-    steps-start (record { some = omega (arith, c.if-degrees-eq0.false); fits = p.degrees_in_bounds; spot = refl; top = c.min-highest.ensures; room = p.left_in_bounds })
+    steps-start
+    (record { some = omega (arith, c.if-degrees-eq0.false); fits = p.degrees_in_bounds; spot = refl; top = c.min-highest.ensures; room = p.left_in_bounds })
 
 pub enumerate_basis_recurse-next-requires : goal.enumerate_basis_recurse-next-requires
 enumerate_basis_recurse-next-requires t c =

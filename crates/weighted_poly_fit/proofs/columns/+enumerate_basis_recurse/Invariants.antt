@@ -1,5 +1,5 @@
 -- The measure is the number of variables that remain. The loop walks over the exponents of the first of them.
-use lib.ListN.{length}
+use Rattle.std.specs.Prelude.{length}
 use Rattle.weighted_poly_fit.proofs.Steps.{Steps}
 use Rattle.weighted_poly_fit.proofs.columns.+enumerate_basis_recurse.Given as goal
 

@@ -1,5 +1,5 @@
 -- The loop over the total degrees.
-use native.Mathlib.Omega.{arith}
+use Rattle.std.proofs.Common.{arith}
 use Rattle.weighted_poly_fit.proofs.ByDegrees.{degrees_start, degrees_room, degrees_next, degrees_done}
 use Rattle.weighted_poly_fit.proofs.columns.enumerate_basis.Goals as goal
 

@@ -1,5 +1,5 @@
 -- The loop fills the row of one coordinate after the other.
-use Prim.Native.Nat.{◌*◌}
+use Rattle.std.specs.Prelude.{◌*◌}
 use Rattle.weighted_poly_fit.specs.Entries.{fallen}
 use Rattle.theory.specs.FilledRows.{Rows}
 use Rattle.weighted_poly_fit.proofs.matrix.fill_products.Given as goal

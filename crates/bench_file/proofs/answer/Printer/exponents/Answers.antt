@@ -19,4 +19,5 @@ loop-preserved c =
 pub returns : goal.returns
 returns c =
     let k = c.loop in
-    k.invariant.1 k.self (writes_same k.self k.self _ _ (digits_none c.args.cube.degree (c.args.cube.variables - k.counter) k.rest (omega arith)) (writes_none k.self))
+    k.invariant.1 k.self
+    (writes_same k.self k.self _ _ (digits_none c.args.cube.degree (c.args.cube.variables - k.counter) k.rest (omega arith)) (writes_none k.self))

@@ -3,7 +3,8 @@
 use Rattle.std.proofs.Common.{◌≡◌, suc, ◌-◌, ◌<◌, length, refl, ap, ◌∙◌, arith}
 use Rattle.std.specs.Option.{is_some}
 use Rattle.meaning.specs.Tables.{at}
-use Rattle.multivar_poly_recovery.proofs.Servings.{begins_short, begins_others, reaching_take, single, single_cells, double_cells}
+use Rattle.box_rows.specs.Rows.{begins_short, begins_others}
+use Rattle.multivar_poly_recovery.proofs.Servings.{reaching_take, single, single_cells, double_cells}
 use Rattle.multivar_poly_recovery.proofs.SubBoxes.{promise_split, layout, sub_boxes_start, sub_box_length, sub_box_fails, sub_boxes_step}
 use Rattle.multivar_poly_recovery.proofs.extraction.Left.+boxes.Goals as goal
 
@@ -54,7 +55,8 @@ returns-in_err-boxes t c =
     let i = l.invariant in
     let inside : l.e < suc (at ds (length ds - 1)) = omega (arith, c.loop-e-test.true) in
     let short = begins_short _ ds c.requires.begins in
-    let reached : l.e < length a.tables.now.inverses.now = omega (arith, inside, c.requires.reach (length ds - 1) (omega (arith, short, c.if-degrees-tables.false))) in
+    let reached : l.e < length a.tables.now.inverses.now =
+    omega (arith, inside, c.requires.reach (length ds - 1) (omega (arith, short, c.if-degrees-tables.false))) in
     let came = rw (c.sub_box-left.ensures.0, c.sub_box-left.ensures.1) at c.boxes.ensures in
     rw c.from_residual.ensures
     (promise_split _ _ _ _ _ a.part.now _ _ i.1.split
@@ -69,7 +71,8 @@ loop-e-preserved t c =
     let i = l.invariant in
     let inside : l.e < suc (at ds (length ds - 1)) = omega (arith, c.loop-e-test.true) in
     let short = begins_short _ ds c.requires.begins in
-    let reached : l.e < length a.tables.now.inverses.now = omega (arith, inside, c.requires.reach (length ds - 1) (omega (arith, short, c.if-degrees-tables.false))) in
+    let reached : l.e < length a.tables.now.inverses.now =
+    omega (arith, inside, c.requires.reach (length ds - 1) (omega (arith, short, c.if-degrees-tables.false))) in
     let came = rw (c.sub_box-left.ensures.0, c.sub_box-left.ensures.1) at c.boxes.ensures in (
       sub_boxes_step _ _ _ _ _ _ l.part l.bits l.from l.e i.0 inside i.1.whole _ i.1.sized
           a.tables.now.inverses.now a.tables.now.serve reached _ c.sub_box-left.ensures.2 _ _

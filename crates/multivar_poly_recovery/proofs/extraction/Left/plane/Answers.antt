@@ -8,9 +8,12 @@ use Rattle.multivar_poly_recovery.proofs.SubBoxes.{sub_boxes_start, sub_box_fits
 use Rattle.multivar_poly_recovery.proofs.extraction.Left.plane.Goals as goal
 use Rattle.multivar_poly_recovery.proofs.extraction.Left.plane.Goals.{In-loop-e}
 
--- the line of exponent e, and the box as lines
+-- the line of exponent e, whose inverse is at hand, and the box as lines
 exponent : (c : In-loop-e) → c.loop-e.e < suc c.args.last
 exponent c = omega (arith, c.loop-e-test.true)
+
+reached : (c : In-loop-e) → c.loop-e.e < length c.args.inverses.now.table.now
+reached c = omega (arith, exponent c, c.requires.2)
 
 sized : (c : In-loop-e) → c.args.first + 1 ≡ cells (c.args.first ∷ [])
 sized c = add-one _ ∙ sym (single_cells (c.args.first ∷ []) refl)
@@ -42,20 +45,19 @@ pub returns-in_err-line : goal.returns-in_err-line
 returns-in_err-line c =
     let k = (goal.at.returns-in_err-line c).In-loop-e in
     let l = c.loop-e in
-    let reached : l.e < length c.args.inverses.now.table.now = omega (arith, exponent k, c.requires.2) in
     let came = rw (c.sub_box.ensures.0, c.sub_box.ensures.1) at (c.line.ensures _ (long k)) in
     rw c.from_residual.ensures
     (sub_box_fails _ _ _ _ _ c.args.part.now l.part l.bits l.from l.e l.invariant (exponent k) (whole k) _ (sized k)
-    c.args.inverses.now.table.now c.args.inverses.now.serve reached _ c.sub_box.ensures.2 _ _ came _ (ap is_some c.in_err-line.was))
+    c.args.inverses.now.table.now c.args.inverses.now.serve (reached k) _ c.sub_box.ensures.2 _ _ came _ (ap is_some c.in_err-line.was))
 
 pub loop-e-preserved : goal.loop-e-preserved
 loop-e-preserved c =
     let k = (goal.at.loop-e-preserved c).In-loop-e in
     let l = c.loop-e in
-    let reached : l.e < length c.args.inverses.now.table.now = omega (arith, exponent k, c.requires.2) in
     let came = rw (c.sub_box.ensures.0, c.sub_box.ensures.1) at (c.line.ensures _ (long k)) in
     sub_boxes_step _ _ _ _ _ _ l.part l.bits l.from l.e l.invariant (exponent k) (whole k) _ (sized k)
-    c.args.inverses.now.table.now c.args.inverses.now.serve reached _ c.sub_box.ensures.2 _ _ came _ c.line.auto.part (ap is_some c.in_ok-line.was) c.bits_left-bits.ensures
+    c.args.inverses.now.table.now c.args.inverses.now.serve (reached k) _ c.sub_box.ensures.2 _ _ came _ c.line.auto.part
+    (ap is_some c.in_ok-line.was) c.bits_left-bits.ensures
 
 pub returns : goal.returns
 returns c =

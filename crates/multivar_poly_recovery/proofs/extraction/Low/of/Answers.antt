@@ -1,6 +1,6 @@
 -- A mask and 1 is a power of two, or 0 where all 64 bits are ones (`trailing_mask`).
 use Rattle.std.proofs.Common.{◌≡◌, ℕ, ◌+◌, ◌-◌, ◌%◌, ◌^◌, ◌≤◌, ap, ◌∙◌, sym}
-use lib.Count.{count_trailing_zeros}
+use Rattle.std.specs.Int.Count.{count_trailing_zeros}
 use Rattle.multivar_poly_recovery.proofs.Cells.{trailing_mask}
 use Rattle.multivar_poly_recovery.proofs.extraction.Low.of.Goals as goal
 

@@ -6,4 +6,4 @@ use Rattle.two_adic_solver.proofs.pivot.Pivot.divides.Goals as goal
 pub returns : goal.returns
 returns c =
     let p = c.args.self.now in
-    ap (λ (n : ℕ). nat_eq n 0) (ap (bit_and c.args.number) c.bitmask.ensures ∙ masked_low c.args.number p.twos (omega (arith, p.fits.0, p.fits.1)))
+    ap (λ (n : ℕ). nat_eq n 0) (ap (bit_and c.args.number) c.bitmask.ensures ∙ masked_low c.args.number p.twos (omega (arith, p.fits, p.width.fits)))

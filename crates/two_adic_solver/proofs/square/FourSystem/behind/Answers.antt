@@ -4,4 +4,6 @@ use Rattle.two_adic_solver.proofs.FixedLaws.{joined-behind}
 use Rattle.two_adic_solver.proofs.square.FourSystem.behind.Goals as goal
 
 pub returns : goal.returns
-returns c = let p = c.requires in joined-behind p.0.0 c.args.row c.args.column (omega (arith, p.0.1, p.1)) p.2
+returns c = let p = c.requires in
+    let s = c.args.self.now in
+    joined-behind s.square c.args.row c.args.column (omega (arith, s.sides.0, p.0)) p.1

@@ -1,10 +1,6 @@
 -- The matrix is cleared; the loop fills one column after the other.
-use mathlib.Core.Path.{◌≡◌, sym, ap, ◌∙◌}
-use mathlib.Core.List.{List}
-use Prim.Native.Nat.{ℕ, suc, ◌+◌, ◌*◌, ◌-◌, ◌≤◌, ◌<◌}
-use native.Mathlib.Nat.{mul-le-mul_right, le_of_eq}
-use native.Mathlib.Omega.{arith}
-use lib.ListN.{length, take, drop}
+use Rattle.std.specs.Prelude.{◌≡◌, List, ℕ, suc, ◌+◌, ◌*◌, ◌-◌, ◌≤◌, ◌<◌, length, take, drop}
+use Rattle.std.proofs.Common.{sym, ap, ◌∙◌, mul-le-mul_right, le_of_eq, arith}
 use Rattle.meaning.specs.Tables.{at, tabulate}
 use Rattle.theory.specs.Tables.{length-tabulate}
 use Rattle.theory.specs.Parts.{part, length_part, at_part}
@@ -41,18 +37,6 @@ pub loop-c-init : goal.loop-c-init
 loop-c-init c =
     let long = cleared_long _ c.clear.ensures in
     columns-start (long ∙ c.requires.matrix_len.0) (c.clear.ensures ∙ ap (λ (n : ℕ). tabulate n (λ i. 0)) (sym long))
-
-pub overflow_mul-from : goal.overflow_mul-from
-overflow_mul-from c = omega (arith, inside _ _ c.requires.matrix_len.1 c.loop-c-test.true)
-
-pub overflow_add-column : goal.overflow_add-column
-overflow_add-column c = record { fits = omega (arith, inside _ _ c.requires.matrix_len.1 c.loop-c-test.true) }
-
-pub slice_bounds-column-end : goal.slice_bounds-column-end
-slice_bounds-column-end c = inside _ _ c.requires.matrix_len.1 c.loop-c-test.true
-
-pub invariant_of-column : goal.invariant_of-column
-invariant_of-column c = record { narrow = c.args.self.now.shaped.high; inside = c.loop-c-test.true; holds = c.requires.weights_len.1 }
 
 pub fill-requires : goal.fill-requires
 fill-requires c =

@@ -1,5 +1,5 @@
 -- The matrix is cleared; the loop fills one column after the other.
-use lib.ListN.{length}
+use Rattle.std.specs.Prelude.{length}
 use Rattle.weighted_poly_fit.specs.Entries.{weighed}
 use Rattle.weighted_poly_fit.proofs.MatrixColumns.{Columns}
 use Rattle.weighted_poly_fit.proofs.fit.Given.fill_columns.Given as goal

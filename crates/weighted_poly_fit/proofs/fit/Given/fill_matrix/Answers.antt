@@ -1,10 +1,6 @@
 -- Of one variable the rows are falling factorials times their weights; of more the columns are filled from the table of falling factorials.
-use mathlib.Core.Path.{◌≡◌, sym, ap, ap₂, ◌∙◌}
-use mathlib.Core.List.{List}
-use Prim.Native.Nat.{ℕ, ◌*◌, ◌%◌, ◌^◌, ◌<◌}
-use native.Mathlib.Nat.{mul-le-mul_right, le_trans, le_of_eq, lt_of_lt_of_le}
-use native.Mathlib.Omega.{arith}
-use lib.ListN.{length}
+use Rattle.std.specs.Prelude.{◌≡◌, List, ℕ, ◌*◌, ◌%◌, ◌^◌, ◌<◌, length}
+use Rattle.std.proofs.Common.{sym, ap, ap₂, ◌∙◌, mul-le-mul_right, le_trans, le_of_eq, lt_of_lt_of_le, arith}
 use Rattle.meaning.specs.Tables.{at, tabulate}
 use Rattle.meaning.specs.Elimination.{joined}
 use Rattle.meaning.specs.Fit.{columns}
@@ -34,9 +30,6 @@ module _ (g : Given) {es : List ℕ} (listed : es ≡ joined (columns g.degrees.
   long : length es ≡ g.cols * length g.grid.now
   long =
       ap length listed ∙ length-columns-joined g.degrees.now g.most ∙ ap₂ ◌*◌ (sym g.counted.column_count) (sym g.shaped.same)
-
-pub weigh_rows-requires-clause-matrix_len : goal.weigh_rows-requires-clause-matrix_len
-weigh_rows-requires-clause-matrix_len c = (filled_long _ _ c.fill_products.ensures ∙ c.requires.matrix_len, c.args.self.now.shaped.high)
 
 pub returns-then-self-eq1 : goal.returns-then-self-eq1
 returns-then-self-eq1 c =

@@ -1,8 +1,7 @@
 -- One variable is a line; else the loop walks over the sub-boxes of the last variable, and a sub-box whose product is zero is zero as it was.
-use Rattle.std.proofs.Common.{◌≡◌, ℕ, List, length, ◌+◌, ◌*◌, ◌-◌, ◌/◌, ◌^◌, ◌<◌, ◌≤◌, refl, sym, ap, subst, ◌∙◌, arith}
-use native.Mathlib.Nat.{zero-mul, lt_of_lt_of_le, mul-le-mul_right, le_trans, le_of_eq}
-use lib.Arith.{digits_lt}
-use lib.Bits.{bit_and}
+use Rattle.std.proofs.Common.{◌≡◌, ℕ, List, length, ◌+◌, ◌*◌, ◌-◌, ◌/◌, ◌^◌, ◌<◌, ◌≤◌, refl, sym, ap, subst, ◌∙◌, arith, zero-mul, lt_of_lt_of_le, mul-le-mul_right, le_trans, le_of_eq}
+use Rattle.std.specs.Prelude.{bit_and}
+use Rattle.std.proofs.Math.Arith.{digits_lt}
 use Rattle.meaning.specs.Tables.{at}
 use Rattle.meaning.specs.Factorials.{falling}
 use Rattle.theory.specs.Congruence.{Cong}
@@ -15,7 +14,8 @@ use Rattle.weighted_poly_fit.proofs.matrix.Column.+fill.Goals as goal
 use Rattle.weighted_poly_fit.proofs.matrix.Column.+fill.Goals.{then-product-ne0, else-product-ne0}
 
 -- the place of the falling factorial of a turn
-factor_place : {gs : List ℕ} (es ps : List ℕ) {size n rows x from : ℕ} → Tabled gs es size ps → Walk gs n rows x from → from < n → x * size + at es (length gs - 1) < length ps
+factor_place : {gs : List ℕ} (es ps : List ℕ) {size n rows x from : ℕ} → Tabled gs es size ps → Walk gs n rows x from → from < n
+    → x * size + at es (length gs - 1) < length ps
 factor_place {gs} es ps t w h =
     let d = t (length gs - 1) (omega (arith, w.filled)) in
     lt_of_lt_of_le (digits_lt (omega (arith, walk_exponent w h)) d.0) d.1
@@ -47,9 +47,6 @@ loop-x-init t c =
     let p = c.requires in
     (walk_at (walk_start c.args.grid.now _ p.weights_len.1 p.weights_len.0), column_none (zero-mul _), c.bitmask-mask.ensures)
 
-pub bounds-products-x : goal.bounds-products-x
-bounds-products-x t c = factor_place _ _ c.requires.tabled.0 c.loop-x.invariant.0 (walk_inside c.loop-x.invariant.0 c.loop-x-test.true)
-
 pub overflow_mul-from-then-product-ne0 : goal.overflow_mul-from-then-product-ne0
 overflow_mul-from-then-product-ne0 t c =
     let i = c.loop-x.invariant in
@@ -64,12 +61,6 @@ pub offset_bounds-matrix-from : goal.offset_bounds-matrix-from
 offset_bounds-matrix-from t c =
     let i = c.loop-x.invariant in
     omega (arith, part_fits i.0 (walk_inside i.0 c.loop-x-test.true) i.1 c.requires.matrix_len)
-
-pub slice_bounds-fill-end : goal.slice_bounds-fill-end
-slice_bounds-fill-end t c = part_fits c.loop-x.invariant.0 (walk_inside c.loop-x.invariant.0 c.loop-x-test.true) c.loop-x.invariant.1 c.requires.matrix_len
-
-pub slice_bounds-fill-end-then-product-ne0 : goal.slice_bounds-fill-end-then-product-ne0
-slice_bounds-fill-end-then-product-ne0 t c = walk_fits c.loop-x.invariant.0 (walk_inside c.loop-x.invariant.0 c.loop-x-test.true)
 
 pub fill-requires : goal.fill-requires
 fill-requires t c =
@@ -113,7 +104,8 @@ loop-x-preserved t c =
     let f : ℕ → ℕ = column_entry k.bitwidth a.value a.grid.now k.exps.now a.weights.now in
     let long : length (part from (from + rows) a.weights.now) ≡ rows = length_part _ _ a.weights.now fits ∙ omega arith in
     let d = p.tabled.0 (length a.grid.now - 1) (omega (arith, p.weights_len.1)) in
-    let multiplied : Cong (2 ^ k.bitwidth) (bit_and c.wrapping_mul.result c.bitmask-mask.result) (a.value * falling l.x (at k.exps.now (length a.grid.now - 1))) =
+    let product : ℕ = bit_and c.wrapping_mul.result c.bitmask-mask.result in
+    let multiplied : Cong (2 ^ k.bitwidth) product (a.value * falling l.x (at k.exps.now (length a.grid.now - 1))) =
     product_more k.bitwidth k.narrow i.2 a.value l.x _ c.wrapping_mul.ensures (k.holds l.x _ d.0 (factor_place _ _ p.tabled.0 i.0 h)) in
     let next : from + rows ≡ (l.x + 1) * rows = omega arith in
     let filled : Columned k.cols k.c f a.matrix.now c.if-product-ne0.matrix (from + rows) =

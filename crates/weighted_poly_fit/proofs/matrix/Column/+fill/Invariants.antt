@@ -1,7 +1,5 @@
 -- The measure is the number of variables. The loop walks over the sub-boxes of the last variable.
-use mathlib.Core.Path.{◌≡◌}
-use Prim.Native.Nat.{◌*◌, ◌-◌, ◌^◌, min}
-use lib.ListN.{length}
+use Rattle.std.specs.Prelude.{◌≡◌, ◌*◌, ◌-◌, ◌^◌, min, length}
 use Rattle.box_rows.specs.Walks.{Walk}
 use Rattle.weighted_poly_fit.specs.Entries.{column_entry, Columned}
 use Rattle.weighted_poly_fit.proofs.matrix.Column.+fill.Given as goal

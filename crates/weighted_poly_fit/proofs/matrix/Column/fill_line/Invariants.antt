@@ -1,6 +1,5 @@
 -- The loop fills the entry of one coordinate after the other; where the product is zero the entry is zero as it was.
-use mathlib.Core.Path.{◌≡◌}
-use Prim.Native.Nat.{◌*◌, ◌-◌, ◌%◌, ◌^◌, min}
+use Rattle.std.specs.Prelude.{◌≡◌, ◌*◌, ◌-◌, ◌%◌, ◌^◌, min}
 use Rattle.meaning.specs.Tables.{at}
 use Rattle.weighted_poly_fit.specs.Entries.{fallen, Columned}
 use Rattle.weighted_poly_fit.proofs.matrix.Column.fill_line.Given as goal

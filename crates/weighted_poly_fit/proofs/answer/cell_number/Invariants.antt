@@ -1,6 +1,0 @@
--- The loop adds one variable after the other, the last first.
-use Rattle.weighted_poly_fit.proofs.ExponentLists.{CellFrom}
-use Rattle.weighted_poly_fit.proofs.answer.cell_number.Given as goal
-
-abbrev pub invariant-loop-i : goal.invariant-loop-i
-invariant-loop-i l = CellFrom l.degrees l.exps l.number l.i
