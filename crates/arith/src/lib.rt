@@ -12,7 +12,8 @@ fn half_product(a: u64, b: u64) -> u64
     a * b
 }
 
-// a times b modulo 2^64, from the halves of both.
+// a times b modulo 2^64, from the halves of both. Not by the library's method, since the wrong program `high_halves_crossed`, which must fail, crosses the
+// halves. Compiled it is one instruction.
 pub fn wrapping_mul(a: u64, b: u64) -> u64
     ensures { result ≡ (a * b) % 2 ^ 64 }
 {

@@ -7,8 +7,8 @@ use Rattle.std.specs.declared.option.Option.{Option}
 use Rattle.std.specs.Result.{result_unwrap_or}
 use Rattle.answers.specs.declared.Refusal.{Refusal}
 use Rattle.answers.specs.Said.{said, said_number}
-use Rattle.std.specs.Io.KnownBytes.{Consumes}
-use Rattle.std.proofs.KnownBytes.{Consumes-nil, Consumes-trans}
+use Rattle.std.specs.Io.KnownBytes.{Consumes, Keeps}
+use Rattle.std.proofs.KnownBytes.{Consumes-nil, Consumes-trans, Consumes-kept}
 use Rattle.meaning.specs.Tables.{tabulate}
 use Rattle.meaning.specs.Boxes.{cells}
 use Rattle.meaning.specs.Replies.{Reply, told}
@@ -313,3 +313,8 @@ led_end a b c t₀ r t left n buf l e k = (
   subst (λ (bs : List ℕ). Consumes a c bs) (ap (λ (n : ℕ). l.0.bytes ++ take n buf) e ∙ append-nil l.0.bytes)
       (Consumes-trans a b c l.0.bytes (take n buf) l.1 k),
 )
+
+-- a read that failed, which took nothing
+pub led_failed : (a b c : Option (List ℕ)) (t₀ : List ℕ) (r : Reader) (t : List ℕ) (left : ℕ) → LedFrom a b t₀ r t left → Keeps b c
+    → LedFrom a c t₀ r t left
+led_failed a b c t₀ r t left l k = (l.0, Consumes-kept a b c l.0.bytes l.1 k)

@@ -1,5 +1,5 @@
 -- From the reader and the text to what becomes of the input.
-use Rattle.std.proofs.Common.{sym, ◌∙◌, ap, ap₂, subst, append-nil, arith, take_at, ⊎_elim, inl, inr}
+use Rattle.std.proofs.Common.{sym, ◌∙◌, ap, ap₂, subst, append-nil, arith, take_at, ⊎_elim}
 use Rattle.std.proofs.Math.Seq.{sets-eq, length-sets}
 use Rattle.std.specs.Prelude.{◌≡◌, refl, List, [], ◌++◌, ℕ, ◌+◌, ◌≤◌, length, take, drop, replicate, None, Some, IfSome, Option, Ok, Err, ⊤, Result, ◌⊎◌, IsSome}
 use Rattle.std.specs.Io.KnownBytes.{Consumes, Appends, IsAtEnd}
@@ -13,7 +13,8 @@ use Rattle.bench_file.specs.declared.reader.Reader.{Reader}
 use Rattle.bench.specs.Answers.{FedBy, Led, SaysText, LeavesText}
 use Rattle.bench.proofs.RoomLaws.{text_room_lem}
 use Rattle.bench.specs.GridAnswers.{answering}
-use Rattle.bench.specs.Endings.{TextOf, WholeText, IllHeadText, IsDecided, Answered, SourceText, Printed}
+use Rattle.bench.specs.declared.Ending.{Ending}
+use Rattle.bench.specs.Endings.{TextOf, WholeText, IllHeadText, IsDecided, size_of, Answered, SourceText, Printed}
 use Rattle.bench_file.specs.declared.reader.IllFormed.{IllFormed}
 
 -- all bytes say something
@@ -85,12 +86,12 @@ module _ (t₀ : List ℕ) (zeros : t₀ ≡ replicate 4096 0) (r : Reader) (t o
         text = ill_text ill n e;
       }
 
-  -- the source is at its end, or is decided before
-  module _ (before after : Option (List ℕ)) (k : Consumes before after led.bytes) (ends : IsAtEnd after ⊎ IsDecided r unread) (n : ℕ) (e : w ≡ Some n) where
-    pub answered : Answered (Ok n) out left
-    answered = ⊎_elim (λ _. inl (whole_text n e)) (λ ill. inr (ill_head_text ill n e)) ends
+  pub answered : (x : Ending) → (x ≡ Ending.IllHead (size_of x) → IsDecided r unread) → w ≡ Some (size_of x) → Answered (Ok x) out left
+  answered (Ending.Whole n) ill e = whole_text n e
+  answered (Ending.IllHead n) ill e = ill_head_text (ill refl) n e
 
-    -- the same of the source's bytes
+  -- the same of the source's bytes: the source is at its end, or is decided before
+  module _ (before after : Option (List ℕ)) (k : Consumes before after led.bytes) (ends : IsAtEnd after ⊎ IsDecided r unread) (n : ℕ) (e : w ≡ Some n) where
     pub source_text : SourceText before n out left
     source_text = ⊎_elim whole_source decided_source ends
       where
@@ -120,14 +121,15 @@ module _ (t₀ : List ℕ) (zeros : t₀ ≡ replicate 4096 0) (r : Reader) (t o
           let z : ◌≡◌ {A = ℕ} 0 1 = cc in absurd (omega arith)
 
 -- the text lies inside its buffer
-module _ (n : ℕ) (out left : List ℕ) (room : length out ≡ 1122347) where
-  inside : (x : Content) → TextOf x n out left → n ≤ length left
-  inside x a =
+module _ (out left : List ℕ) (room : length out ≡ 1122347) where
+  inside : (n : ℕ) (x : Content) → TextOf x n out left → n ≤ length left
+  inside n x a =
       let same : length left ≡ length out = ap length a.begins ∙ length-sets out 0 a.text in
       omega (arith, text_room_lem x, ap length a.layout, a.size, room, same)
 
-  pub text_inside : Answered (Ok n) out left → n ≤ length left
-  text_inside a = ⊎_elim (λ (w : WholeText n out left). inside w.content w.text) (λ (i : IllHeadText n out left). inside ill_head i.text) a
+  pub text_inside : (x : Ending) → Answered (Ok x) out left → size_of x ≤ length left
+  text_inside (Ending.Whole n) a = inside n a.content a.text
+  text_inside (Ending.IllHead n) a = inside n ill_head a.text
 
 -- the text is what is written of the buffer
 front : (x : Content) (n : ℕ) (out left : List ℕ) → length out ≡ 1122347 → TextOf x n out left → take n left ≡ bench_text x

@@ -1,5 +1,5 @@
 -- What becomes of an input.
-use Rattle.std.specs.Prelude.{◌≡◌, ℕ, ◌≤◌, ◌⊎◌, List, ◌++◌, length, IfSome, Result, Ok, Err}
+use Rattle.std.specs.Prelude.{◌≡◌, ℕ, ◌≤◌, List, ◌++◌, length, IfSome, Result, Ok, Err}
 use Rattle.std.specs.declared.option.Option.{Option}
 use Rattle.std.specs.Io.KnownBytes.{Appends}
 use Rattle.std.proofs.lemmas.List.Edits.{sets}
@@ -7,6 +7,7 @@ use Rattle.bench_file.specs.Layout.{longest_file, Content, ill_head, Says, bench
 use Rattle.bench.specs.GridAnswers.{Answering}
 use Rattle.bench_file.specs.declared.reader.Stage.{Stage}
 use Rattle.bench_file.specs.declared.reader.Reader.{Reader}
+use Rattle.bench.specs.declared.Ending.{Ending}
 use Rattle.bench.specs.declared.Failure.{Failure}
 
 -- the buffer begins with the n bytes of what is printed where a file says this, which for a grid is recovery's verdict
@@ -35,9 +36,15 @@ pub record IllHeadText (n : ℕ) (out left : List ℕ) : Type 0 where
 abbrev pub IsDecided : Reader → ℕ → Type 0
 IsDecided r left = (left ≡ 0) × (r.stage ≡ Stage.IllHead)
 
--- what is written for an input, or nothing where it could not be read
-abbrev pub Answered : Result ℕ Failure → List ℕ → List ℕ → Type 0
-Answered (Ok n) out left = WholeText n out left ⊎ IllHeadText n out left
+-- the size of what is printed of an input that ended so
+abbrev pub size_of : Ending → ℕ
+size_of (Ending.Whole n) = n
+size_of (Ending.IllHead n) = n
+
+-- what is written for an input, by how it ended, or nothing where it could not be read
+abbrev pub Answered : Result Ending Failure → List ℕ → List ℕ → Type 0
+Answered (Ok (Ending.Whole n)) out left = WholeText n out left
+Answered (Ok (Ending.IllHead n)) out left = IllHeadText n out left
 Answered (Err f) out left = left ≡ out
 
 -- the buffer begins with the n bytes of what is printed of a source's bytes, where these are known

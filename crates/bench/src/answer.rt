@@ -44,7 +44,8 @@ fn write_answer(
     }
 }
 
-// Zeros for the values, or the coefficients, of the largest box.
+// Zeros for the values, or the coefficients, of the largest box. There is no heap: the room is an array. `byte_room` is the same for bytes: one function for
+// both types would need a trait that gives their zero, and be no plainer.
 pub(crate) fn cell_room() -> [u64; 4096]
     ensures size { 4096 ≡ length result }
     ensures zeros { result ≡ replicate 4096 0 }

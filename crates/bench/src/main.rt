@@ -8,7 +8,7 @@ ghost use Rattle.std.specs.IoError.{error_kind};
 ghost use Rattle.std.specs.declared.io.ErrorKind.{ErrorKind};
 ghost use Rattle.bench.specs.declared.Failure.{Failure};
 ghost use Rattle.bench.specs.Answers.{LedFrom};
-ghost use Rattle.bench.specs.Endings.{IsDecided, Answered, SourceText, Printed};
+ghost use Rattle.bench.specs.Endings.{IsDecided, size_of, Answered, SourceText, Printed};
 
 mod answer;
 
@@ -62,7 +62,7 @@ impl Input {
     }
 }
 
-// Zeros, into which a piece of the input is read, or the answer is written.
+// Zeros, into which a piece of the input is read, or the answer is written. There is no heap: the room is an array.
 fn byte_room<const N: usize>() -> [u8; N]
     ensures { N ≡ length result }
 {
@@ -73,7 +73,7 @@ fn byte_room<const N: usize>() -> [u8; N]
 const LONGEST_TEXT: usize = 1122347;
 
 // Reads the source and feeds it to a reader, whose values go into the table: to its end, or until it is decided by its first two lines. A proved loop
-// has to end, and nothing says that an input does, so there is a number of turns that no run uses up.
+// has to end, and nothing says that an input does, so there is a number of turns that no run uses up. `is_decided` tells which of the two it was.
 fn read_input<R: Read>(source: &mut R, values: &mut [u64]) -> Result<Input, Failure>
     ensures led { IfOk result (λ i. LedFrom (R.remaining source.old) (R.remaining source.new) values.old i.reader values.new i.left) }
     ensures ends { IfOk result (λ i. IsAtEnd (R.remaining source.new) ⊎ IsDecided i.reader i.left) }
@@ -100,18 +100,43 @@ fn read_input<R: Read>(source: &mut R, values: &mut [u64]) -> Result<Input, Fail
     Err(Failure::NotRead)
 }
 
-// Reads the source and writes its answer to the buffer; how many bytes that is. Nothing is answered where a read failed.
-fn answer_input<R: Read>(source: &mut R, out: &mut [u8]) -> Result<usize, Failure>
+// How an input ended, with the size of what is printed of it.
+#[derive(Clone, Copy, Debug, PartialEq, Eq)]
+enum Ending {
+    // At the end of the source.
+    Whole(usize),
+    // By the first two lines, which are ill-formed.
+    IllHead(usize),
+}
+
+impl Ending {
+    // The size of what is printed.
+    fn size(&self) -> usize
+        ensures { result ≡ size_of self.now }
+    {
+        match *self {
+            Ending::Whole(size) => size,
+            Ending::IllHead(size) => size,
+        }
+    }
+}
+
+// Reads the source and writes its answer to the buffer. Nothing is answered where a read failed.
+fn answer_input<R: Read>(source: &mut R, out: &mut [u8]) -> Result<Ending, Failure>
     requires { length out.old ≡ LONGEST_TEXT }
     ensures answered { Answered result out.old out.new }
-    ensures of_source { IfOk result (λ n. SourceText (R.remaining source.old) n out.old out.new) }
+    ensures of_source { IfOk result (λ e. SourceText (R.remaining source.old) (size_of e) out.old out.new) }
 {
     let mut values = answer::cell_room();
     let input = read_input(source, &mut values)?;
-    Ok(answer::answer_text(input.reader, &values, out).unwrap())
+    let size = answer::answer_text(input.reader, &values, out).unwrap();
+    if input.is_decided() {
+        return Ok(Ending::IllHead(size));
+    }
+    Ok(Ending::Whole(size))
 }
 
-// Why a write failed.
+// Why a write failed. No `From`: a read that fails has the same type of error and is another failure.
 fn failure_of(error: io::Error) -> Failure
     ensures wanted { (result ≡ Failure.NotWanted) ↔ (error_kind error ≡ ErrorKind.BrokenPipe) }
     ensures write { result ≢ Failure.NotRead }
@@ -128,7 +153,7 @@ fn answer_file<R: Read, W: Write>(source: &mut R, sink: &mut W) -> Result<(), Fa
     ensures kept { result ≡ Err Failure.NotRead → sink.new ≡ sink.old }
 {
     let mut out = byte_room::<LONGEST_TEXT>();
-    let size = answer_input(source, &mut out)?;
+    let size = answer_input(source, &mut out)?.size();
     sink.write_all(&out[..size]).map_err(failure_of)?;
     Ok(())
 }

@@ -14,7 +14,7 @@ pub struct Cube {
     pub variables: u8,
 }
 
-// A lent buffer and how many of its bytes are written.
+// A lent buffer and how many of its bytes are written: a sink of fixed memory, since there is no heap for a text that grows.
 #[derive(Drop)]
 struct Printer<'a> {
     out: &'a mut [u8],
@@ -107,7 +107,7 @@ pub fn write_accepted(cube: Cube, coefficients: &[u64], out: &mut [u8]) -> Optio
 }
 
 // Writes a refusal: its number alone on a line. Gives how many bytes of the buffer the text takes: none where it has no room for the text, and then it
-// stays as it was.
+// stays as it was. The number and not the refusal, since the definition `refused_text` is of any number.
 pub fn write_refused(code: u32, out: &mut [u8]) -> Option<usize>
     ensures says { result ≡ printed_size (refused_text code) out.old }
     ensures leaves { out.new ≡ printed (refused_text code) out.old }

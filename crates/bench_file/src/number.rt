@@ -47,7 +47,8 @@ fn shown_digit(rest: u64) -> u8
     b'0' + (rest % 10) as u8
 }
 
-// Writes the 21 columns of a number. A part of another length stays as it was. Digit by digit: no clause of the library says what `{:>21}` prints.
+// Writes the 21 columns of a number. A part of another length stays as it was. Digit by digit: no clause of the library says what `{:>21}` prints, nor what is
+// written through `iter_mut().rev()`.
 pub fn write_number(out: &mut [u8], value: u64)
     ensures { out.new ≡ cond (eqb (length out.old) 21) (number value) out.old }
 {

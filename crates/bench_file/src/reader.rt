@@ -8,6 +8,8 @@ ghost use Rattle.bench_file.specs.Steps.{state, line_end, step, fed, reading_of}
 
 use crate::number;
 use answers::Refusal;
+use std::error::Error;
+use std::fmt;
 
 // Where the reading stands.
 #[derive(Clone, Copy, Debug, PartialEq, Eq)]
@@ -34,6 +36,17 @@ pub enum IllFormed {
     // What follows them, which are well-formed.
     Values,
 }
+
+impl fmt::Display for IllFormed {
+    fn fmt<W: fmt::Write>(&self, f: &mut fmt::Formatter<W>) -> fmt::Result {
+        f.write_str(match self {
+            IllFormed::Head => "the first two lines are ill-formed",
+            IllFormed::Values => "what follows the first two lines is ill-formed",
+        })
+    }
+}
+
+impl Error for IllFormed {}
 
 impl From<IllFormed> for Refusal {
     ghost from_gives = { λ _ refusal. refusal ≡ Refusal.IllFormed };

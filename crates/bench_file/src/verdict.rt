@@ -8,7 +8,7 @@ use answers::Refusal;
 
 // The outcome of the answer. `settings` says whether anything is wrong with the settings; `exact` says that there are as many values as the box has cells;
 // `recovered` is what recovery says. An input whose first two lines are ill-formed is 12; then come the settings, then 12 for ill-formed values, then 9 for
-// a wrong count.
+// a wrong count. `exact` is a bool, since the definition `verdict` takes this test as a Bool.
 pub fn verdict_of(
     reading: Result<(), IllFormed>,
     settings: Result<(), Refusal>,

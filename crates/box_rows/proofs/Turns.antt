@@ -207,10 +207,10 @@ line_bounds w (d ∷ []) one i h = line_bound w d i (omega arith)
 line_bounds w (d ∷ (y ∷ ys)) one i h = absurd (suc-ne-zero (length ys) (suc_inj one))
 
 -- whatever the exponents
-pub no_bits : (w : ℕ) (es : List ℕ) → w ≡ 0 → 2 ^ 0 ≡ bound w es
+pub no_bits : (w k : ℕ) (es : List ℕ) → w ≡ 0 → 2 ^ (0 - k) ≡ bound w es
 unfolding bound
-no_bits w es z =
-    let none : 0 ≡ w - weight es = omega arith in
+no_bits w k es z =
+    let none : 0 - k ≡ w - weight es = omega arith in
     ap (2 ^◌) none
 
 -- of two variables the last is the second

@@ -1,12 +1,11 @@
-// What is done at the cells of boxes: sum, reduction, and the tests against the bounds. A test writes no table. A job that holds tables is copied and no more,
-// since to compare or print it would go over all their numbers.
+// What is done at the cells of boxes: sum, reduction, and the tests against the bounds. A test writes no table.
 ghost use Rattle.std.specs.Prelude.{◌+◌, ◌%◌, ◌<◌, true, length, ◌==◌, nat_lt};
 ghost use Rattle.meaning.specs.Tables.{at};
 
 use crate::walk::Job;
 
 // The sum of two boxes, each coefficient kept below its bound.
-#[derive(Clone, Copy)]
+#[derive(Clone, Copy, Debug, PartialEq, Eq)]
 pub(crate) struct Sum<'a> {
     pub(crate) a: &'a [u64],
     pub(crate) b: &'a [u64],
@@ -43,7 +42,7 @@ impl Job for Reduction {
 }
 
 // The test that every coefficient is below its bound: what is over it fails.
-#[derive(Clone, Copy)]
+#[derive(Clone, Copy, Debug, PartialEq, Eq)]
 pub(crate) struct Bounded<'a> {
     pub(crate) coeffs: &'a [u64],
 }
@@ -61,7 +60,7 @@ impl Job for Bounded<'_> {
 }
 
 // The test that two boxes are equal modulo the bounds: the bits below the bound in which two coefficients differ fail.
-#[derive(Clone, Copy)]
+#[derive(Clone, Copy, Debug, PartialEq, Eq)]
 pub(crate) struct Agreement<'a> {
     pub(crate) a: &'a [u64],
     pub(crate) b: &'a [u64],

@@ -1,5 +1,6 @@
 // The bits of the cells of a row. The first variables of a box, as many as have 256 cells or fewer together, make its rows: the mask of each cell of a row,
 // 2^(64 - q) - 1 with q the twos in the factorials of its exponents, is laid out once. In a row where `bits` bits are left it is shifted right by 64 - bits.
+// The numbers are lent beside the table that they are laid out in: a struct of both would need a clause in every function that its table stays the same one.
 ghost use Rattle.std.specs.Prelude.{◌≡◌, ℕ, suc, ◌+◌, ◌-◌, ◌*◌, ◌/◌, ◌%◌, ◌^◌, ◌<◌, ◌≤◌, cond, leb, List, [], ◌∷◌, ◌++◌, length, take, if◌then◌else◌, nat_le};
 ghost use Rattle.std.specs.Int.Count.{count_trailing_zeros};
 ghost use Rattle.meaning.specs.Factorials.{twos};

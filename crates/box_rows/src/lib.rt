@@ -21,7 +21,9 @@ fn whole_box(degrees: &[u8], n: usize, bits: u32) -> Option<Part<'_>>
     ensures { MatchOption result (holds degrees.now n ≡ false)
         (λ p. (holds degrees.now n ≡ true) × (p.degrees.now ≡ degrees.now) × (p.from ≡ 0) × (p.count ≡ n) × (p.bits ≡ min bits 64)) }
 {
-    if 65536 < n || n as u64 != settings::count_cells(degrees, settings::TABLE_LIMIT) {
+    if (settings::TABLE_LIMIT as usize) < n
+        || n as u64 != settings::count_cells(degrees, settings::TABLE_LIMIT)
+    {
         return None;
     }
     Some(Part {

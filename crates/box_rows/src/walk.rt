@@ -52,7 +52,7 @@ struct Rows<'a> {
     ghost laid: { Laid row.now masks.now },
 }
 
-// A line, of one variable: to entry n are left the bits without the twos in n!.
+// A line, of one variable: to entry n are left the bits without the twos in n!. A box where no bits are left is one line.
 fn line<J: Job>(job: &J, table: &mut [u64], from: usize, count: usize, bits: u32) -> bool
     requires low { from + count ≤ 65536 }
     requires few { bits ≤ 64 }
@@ -66,20 +66,6 @@ fn line<J: Job>(job: &J, table: &mut [u64], from: usize, count: usize, bits: u32
     for i in 0..count {
         found = found | own.cell(table, from + i, mask);
         mask = mask >> layout::twos_in(i + 1);
-    }
-    found == 0
-}
-
-// Where no bits are left, whatever the exponents.
-fn none<J: Job>(job: &J, table: &mut [u64], from: usize, count: usize) -> bool
-    requires low { from + count ≤ 65536 }
-    requires hand { AllAtHand (J.at_hand job.now (length table.old)) from count }
-    ensures { Walked (J.left job.now) (J.passes job.now) (λ n. 2 ^ 0) from count table.old table.new result }
-{
-    let own = *job;
-    let mut found = 0;
-    for i in 0..count {
-        found = found | own.cell(table, from + i, 0);
     }
     found == 0
 }
@@ -102,7 +88,8 @@ fn row<J: Job>(job: &J, table: &mut [u64], part: &Part, rows: &Rows) -> bool
     found == 0
 }
 
-// Two variables, line by line, up to the first line that fails.
+// Two variables, line by line, up to the first line that fails: `boxes` with lines in the place of sub-boxes, which spares each line of a small box a call and
+// the choice between row, line and box.
 fn plane<J: Job>(job: &J, table: &mut [u64], part: &Part) -> bool
     requires two { length part.now.degrees.now ≡ 2 }
     requires hand { AllAtHand (J.at_hand job.now (length table.old)) part.now.from part.now.count }
@@ -133,7 +120,7 @@ fn boxes<J: Job>(job: &J, table: &mut [u64], part: &Part, rows: &Rows) -> bool
 {
     let degrees = part.degrees;
     if part.bits == 0 {
-        return none(job, table, part.from, part.count);
+        return line(job, table, part.from, part.count, 0);
     }
     if degrees.len() == rows.row.len() {
         return row(job, table, part, rows);

@@ -31,12 +31,12 @@ use Rattle.byte_calls.specs.FitDemands.{fits_of_bytes}
 
 -- the support's bytes and the settings of the grid pass, or are turned down
 module _ (s : ByteFitSettings) {g : ByteSettings} (is : g ≡ byte_grid s) {answer : Result ℕ Refusal}
-    (says : said answer ≡ reply (before false g) (cells (byte_degrees g))) where
-  pub grid_boxed : {n : ℕ} → answer ≡ Ok n → Boxed false (byte_grid s) n
-  grid_boxed {n} e = subst (λ (g : ByteSettings). Boxed false g n) is (boxed false g says e)
+    (says : said answer ≡ reply (before false g (byte_degrees g)) (cells (byte_degrees g))) where
+  pub grid_boxed : {n : ℕ} → answer ≡ Ok n → Boxed false (byte_grid s) (byte_degrees (byte_grid s)) n
+  grid_boxed {n} e = subst (λ (g : ByteSettings). Boxed false g (byte_degrees g) n) is (boxed false g (byte_degrees g) says e)
 
-  pub grid_unboxed : {r : Refusal} → answer ≡ Err r → before false (byte_grid s) ≡ code r
-  grid_unboxed e = sym (ap (before false) is) ∙ unboxed false g says e
+  pub grid_unboxed : {r : Refusal} → answer ≡ Err r → before false (byte_grid s) (byte_degrees (byte_grid s)) ≡ code r
+  grid_unboxed e = sym (ap (λ (g : ByteSettings). before false g (byte_degrees g)) is) ∙ unboxed false g (byte_degrees g) says e
 
 -- the places hold the support's indices
 pub grid_held : (s : ByteFitSettings) (places : List ℕ) {g : ByteSettings} → g ≡ byte_grid s
@@ -79,21 +79,21 @@ module _ (s : ByteFitSettings) (weights targets out : List ℕ) where
   turned r e = promised (reply-code r _ (first_code r _ e), sym (left-code r _ _ e))
 
   -- the settings are turned down
-  pub fit_turned : (r : Refusal) → before false (byte_grid s) ≡ code r → Said (refused (code r)) out
+  pub fit_turned : (r : Refusal) → before false (byte_grid s) (byte_degrees (byte_grid s)) ≡ code r → Said (refused (code r)) out
   unfolding fit_bytes_cause
   fit_turned r e = turned r (first_code r _ e)
 
   -- they pass, and the rows, the entries and the cells are counted, of a matrix that is small enough: the tables that are lent on those settings
   pub record Counted (on : FitSettings) (needs : FitRoom) (count : ℕ) : Type 0 where
     pub points : ℕ
-    pub boxed : Boxed false (byte_grid s) points
+    pub boxed : Boxed false (byte_grid s) (byte_degrees (byte_grid s)) points
     pub row_count : needs.rows ≡ fit_rows asked
     pub entry_count : needs.entries ≡ entries
     pub cell_count : count ≡ cells asked.degrees
     pub small : needs.entries ≤ byte_limit
     pub lent : fit_lent on weights targets needs.entries needs.rows count ≡ fit_zeros needs.entries needs.rows count
 
-  module _ {rows : ℕ} (b : Boxed false (byte_grid s) rows) where
+  module _ {rows : ℕ} (b : Boxed false (byte_grid s) (byte_degrees (byte_grid s)) rows) where
     -- what is left where they pass
     cause : (x : Bool) → ltb byte_limit entries ≡ x → (y : Bool) → lengths ≡ y
         → fit_bytes_cause s.count s.support.now weights targets out asked ≡ first (cond x 8 0) (cond y 0 9)

@@ -14,7 +14,7 @@ use answers::Refusal;
 use settings::Settings;
 
 // The settings of a call on bytes: the support, of `count` indices, the number of variables in all, the width, and the highest degree, which every support
-// variable has.
+// variable has. Not `Settings`, since the support crosses as bytes, which need not be whole entries, so that its count stands beside them.
 #[derive(Clone, Copy, Debug, PartialEq, Eq)]
 pub struct ByteSettings<'a> {
     pub support: &'a [u8],
@@ -50,6 +50,7 @@ impl<'a> ByteSettings<'a> {
     // The support's bytes and the settings: the number of cells, at most 4,096, or the first cause to turn the call down, in the order 9 (the support's
     // bytes), 1, 2, 3, 4 (where `strict`), 5, 7, 8. More than twenty indices, below a total of at most twenty, cannot be distinct, so that they are turned
     // down as one index is that stands twice, past the total where one of them is. Else `places` begins with the indices.
+    // The caller lends the twenty places: a type of the decoded indices costs a small call some 20 ns.
     pub(crate) fn check(&self, strict: bool, places: &mut [u64]) -> Result<u64, Refusal>
         requires { length places.old ≡ 20 }
         ensures says { let s = self.now in said result ≡ reply (box_number strict s.count s.total s.bitwidth s.support.now (byte_degrees s))

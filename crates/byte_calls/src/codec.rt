@@ -16,7 +16,7 @@ pub(crate) fn holds(bytes: &[u8], count: u64) -> bool
 }
 
 // Fills `words` with the entries that `bytes` hold. It is kept out of its callers: there the compiler clears the end of a large room twice, which takes a box of
-// 256 cells a seventh longer.
+// 256 cells a seventh longer. The chunks are read by the index: a loop over a zip runs by its iterator, and its proof speaks of what that has yielded.
 #[inline(never)]
 pub(crate) fn decode(bytes: &[u8], words: &mut [u64])
     requires { length bytes.now ≡ length words.old * 8 }
@@ -28,7 +28,7 @@ pub(crate) fn decode(bytes: &[u8], words: &mut [u64])
     }
 }
 
-// Fills `bytes` with the entries of `words`.
+// Fills `bytes` with the entries of `words`. The parts are cut by their places: no clause says what chunks that are lent to be written leave in a table.
 pub(crate) fn encode(words: &[u64], bytes: &mut [u8])
     requires { length bytes.old ≡ length words.now * 8 }
     ensures { bytes.new ≡ encoded words.now }
@@ -39,7 +39,8 @@ pub(crate) fn encode(words: &[u64], bytes: &mut [u8])
     }
 }
 
-// Whether some index is not below the total.
+// Whether some index is not below the total. `settings` has the test on numbers; here the bytes are read in place, and one function for both would need a
+// trait.
 fn index_past(support: &[u8], total: u32) -> bool
     ensures { result ≡ some (leb total) (decoded support.now) }
 {

@@ -15,7 +15,8 @@ use room::sizes;
 use room::sizes::FitSettings;
 
 // The settings of a fit on bytes: the support, of `count` indices, the number of variables in all, the width, the highest sum of exponents, and the degree of
-// the grid, which every support variable has.
+// the grid, which every support variable has. Not `FitSettings`, since the support crosses as bytes, with its count beside them. The two
+// functions below name each field: each makes a struct of another type, so that `..*self` will not do.
 #[derive(Clone, Copy, Debug, PartialEq, Eq)]
 pub struct ByteFitSettings<'a> {
     pub support: &'a [u8],

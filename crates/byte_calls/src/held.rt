@@ -1,7 +1,8 @@
 // Recovery and value on tables of bytes with room by need: for 64 cells, or for as many as a table of bytes may have (`codec::MOST`). The library has no
 // heap, so the rooms are arrays, of which the part that is needed is lent. Each function is kept out of its caller, so that a small box does not have the room
 // of a large one in its frame. The bounds on ROOM stand in each contract, since no type of a const parameter holds them; the parameters are those of the call
-// and the cells that its check counted, and a struct of these would be made in one place and read in one.
+// and the cells that its check counted, and a struct of these would be made in one place and read in one. Recovery and value are two functions, here and in
+// lib.rt, since each lends other tables to another call and promises another thing.
 ghost use Rattle.std.specs.Prelude.{◌≡◌, ◌*◌, ◌≤◌, length};
 ghost use Rattle.meaning.specs.Settings.{byte_limit};
 ghost use Rattle.meaning.specs.Calls.{recovery_number, recovery_left, value_reply};

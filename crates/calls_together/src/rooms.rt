@@ -12,7 +12,7 @@ use room::RecoveryRoom;
 use room::sizes::{FitRoom, FitSettings};
 use settings::Settings;
 
-// What the room of recovery and recovery said.
+// What the room of recovery and recovery said. One struct for both pairs would need type parameters, since neither field has the same type in both.
 #[derive(Clone, Copy, Debug, PartialEq, Eq)]
 struct RecoveryPair {
     room: Result<RecoveryRoom, Refusal>,

@@ -1,4 +1,5 @@
-// Keys of twenty exponents, which cross as twenty bytes: the calls of `mono`. A key table of another length is 9, after 11.
+// Keys of twenty exponents, which cross as twenty bytes: the calls of `mono`. A key table of another length is 9, after 11. The calls that write a lent table
+// match where the others take `and_then`: a closure would take the table, and the proof of what is left in it did not close.
 ghost use Rattle.std.specs.Prelude.{◌≡◌, cond, leb, ltb, length, set};
 ghost use Rattle.meaning.specs.Leaves.{key_number, key_of, exponents_left, exponent_reply, degree_reply, largest_reply, weight_reply};
 ghost use Rattle.meaning.specs.Replies.{told};
@@ -12,6 +13,7 @@ use answers::Refusal;
 use mono::MonomialKey;
 
 // The key of a table of twenty bytes, where the number of variables or the variable is in its range: 11 where it is not, then 9 for another length.
+// `in_range` is a bool: the calls test different ranges.
 fn key_of(table: &[u8], in_range: bool) -> Result<MonomialKey, Refusal>
     ensures says { key_said result ≡ first (cond in_range 0 11) (twenty table.now) }
     ensures gives { exponents_or table.now result ≡ table.now }

@@ -7,8 +7,6 @@ ghost use Rattle.meaning.specs.Replies.{told};
 ghost use Rattle.math_utils.specs.Precision.{precision, bits_of};
 ghost use Rattle.math_utils.specs.Falling.{Stops};
 
-use math_utils::falling::FallingProduct;
-
 #[unsafe(no_mangle)]
 pub extern "C" fn cobra_twos_in_factorial(k: u32) -> u32
     ensures { result ≡ twos (factorial k) }
@@ -58,10 +56,7 @@ pub extern "C" fn cobra_falling_product(
     ensures stops { Stops width x n (falling_told result value.new factors.new) }
 {
     let answer = math_utils::falling::falling_product(x, n, width);
-    let product = answer.unwrap_or(FallingProduct {
-        value: 0,
-        factors: 0,
-    });
+    let product = answer.unwrap_or_default();
     *value = product.value;
     *factors = product.factors;
     answers::outcome_code(answer.map(|_| ()))

@@ -7,8 +7,7 @@ ghost use Rattle.room.specs.Promises.{Costs};
 ghost use Rattle.room.specs.Sizes.{fit_settings, fit_room_told};
 ghost use Rattle.room.specs.FitPromises.{FitCosts};
 
-use room::RecoveryRoom;
-use room::sizes::{FitRoom, FitSettings};
+use room::sizes::FitSettings;
 use settings::Settings;
 
 // The cells of a grid, and the subtractions of its recovery.
@@ -30,10 +29,7 @@ pub extern "C" fn cobra_recovery_room(
         bitwidth: width,
         max_degree: degree,
     });
-    let room = answer.unwrap_or(RecoveryRoom {
-        cells: 0,
-        subtractions: 0,
-    });
+    let room = answer.unwrap_or_default();
     *cells = room.cells;
     *subtractions = room.subtractions;
     answers::outcome_code(answer.map(|_| ()))
@@ -61,11 +57,7 @@ pub extern "C" fn cobra_fit_room(
         max_degree,
         grid_degree,
     });
-    let room = answer.unwrap_or(FitRoom {
-        rows: 0,
-        columns: 0,
-        entries: 0,
-    });
+    let room = answer.unwrap_or_default();
     *rows = room.rows;
     *columns = room.columns;
     *entries = room.entries;

@@ -45,7 +45,8 @@ pub extern "C" fn cobra_solve_2adic_fixed(
     if matrix.len() != 16 || right.len() != 4 || answer.len() != 4 {
         return u32::from(Refusal::WrongLength);
     }
-    // written out: `array::from_fn` would take two closures, one in the other, and show the layout no better
+    // written out: `array::from_fn` would take two closures, one in the other, and `as_chunks` gives a slice, of which `try_from` would have to make the
+    // array of rows; neither shows the layout better
     let rows = [
         [matrix[0], matrix[1], matrix[2], matrix[3]],
         [matrix[4], matrix[5], matrix[6], matrix[7]],

@@ -1,5 +1,5 @@
 -- The loop that counts the cells of a box: the count so far times that of the variables left is all, so that a count above a table's length decides.
-use Rattle.std.proofs.Common.{◌≡◌, ℕ, zero, suc, ◌+◌, ◌*◌, ◌^◌, ◌<◌, ◌≤◌, false, eqb, ◌⊎◌, List, length, drop, sym, ap, ◌∙◌, inl, inr, le_trans, le_of_suc-le-suc, lt_irrefl, mul-le-mul_right, mul-le-mul_left, mul-one, add-one, arith, drop_of_length-le, drop-cons, ne_eqb}
+use Rattle.std.proofs.Common.{◌≡◌, ℕ, zero, suc, ◌+◌, ◌*◌, ◌^◌, ◌<◌, ◌≤◌, false, eqb, List, length, drop, sym, ap, ◌∙◌, le_trans, lt_irrefl, mul-one, add-one, arith, drop_of_length-le, drop-cons, ne_eqb}
 use Rattle.meaning.specs.Tables.{at}
 use Rattle.meaning.specs.Boxes.{cells}
 use Rattle.theory.specs.Boxes.{cells_pos}
@@ -37,11 +37,3 @@ module _ (ds : List ℕ) (size i : ℕ) (r : Counted ds size i) where
   pub counted_done : length ds ≤ i → cells ds ≡ size
   unfolding cells
   counted_done h = r.whole ∙ ap (λ (l : List ℕ). size * cells l) (drop_of_length-le ds h) ∙ mul-one size
-
--- a product that is taken is below 2^64, and one that is not is 2^60 or more
-pub product_high : (a b : ℕ) → 2 ^ 56 ≤ a → 16 ≤ b → 2 ^ 60 ≤ a * b
-product_high a b p q = le_trans (mul-le-mul_right 16 p) (mul-le-mul_left a q)
-
-pub product-low : (a b : ℕ) → a < 2 ^ 60 → b ≤ 256 → (b < 16) ⊎ (a < 2 ^ 56) → a * b < 2 ^ 64
-product-low a b p q (inl h) = omega (arith, mul-le-mul_left a (le_of_suc-le-suc h))
-product-low a b p q (inr h) = omega (arith, mul-le-mul_left a q)

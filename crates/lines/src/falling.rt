@@ -12,7 +12,8 @@ ghost use Rattle.lines.specs.TransformLaws.{falling_of_mul};
 use crate::{Block, FourTransform, LineTransform};
 
 // A pass over a block, towards falling factorials: every coefficient from index `pass` on, the highest first, gets `pass` times the next one added.
-// Two a turn, by `while`: the last one may be left over.
+// Two a turn, so that the compiler makes single products, which are quicker than its vectors (docs/SPEED.md, Conversions); the last one may be left over.
+// `undivide` in powers.rt subtracts, the lowest first: one function for both would take order and sign from its caller.
 fn divide(part: &mut [u64], block: Block, pass: usize)
     requires { (0 < pass) × (pass ≤ block.degree) × (length part.old ≡ size block) }
     ensures { Passes to_falling block pass (suc pass) part.old part.new }
@@ -34,7 +35,8 @@ fn divide(part: &mut [u64], block: Block, pass: usize)
 }
 
 // Two passes at once over a single line, from the highest coefficient down: of the one before, `one` is what it has after the first of them, and `two`
-// after both. The lowest that is reached gets the first pass alone.
+// after both. The lowest that is reached gets the first pass alone. By place: of numbers that are written through `iter_mut().rev()` the library's contracts
+// say nothing.
 fn divide_twice(part: &mut [u64], pass: usize)
     requires { pass + 1 < length part.old }
     ensures { (d : ℕ) (f : ℕ → ℕ) → length part.old ≡ suc d

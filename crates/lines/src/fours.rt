@@ -1,4 +1,4 @@
-// Lines of degree 3, each without a loop, by what a transform makes of four numbers.
+// Lines of degree 3, each without a loop, by what a transform makes of four numbers. They take a stride and no `Block`, whose degree is 3.
 ghost use Rattle.std.specs.Prelude.{◌≡◌, ◌+◌, ◌*◌, ◌%◌, ◌^◌, ◌<◌, List, ℕ, length};
 ghost use Rattle.meaning.specs.Tables.{tabulate, at};
 ghost use Rattle.lines.specs.FlatTables.{lined, blocked};
@@ -39,7 +39,7 @@ fn rows_by_one<T: FourTransform>(transform: T, part: &mut [u64], stride: usize)
     }
 }
 
-// Two a turn, by `while`: the last one may be left over.
+// Two a turn, so that the compiler makes single products, which are quicker than its vectors (docs/SPEED.md, Conversions); the last one may be left over.
 fn rows_by_two<T: FourTransform>(transform: T, part: &mut [u64], stride: usize)
     requires { length part.old ≡ stride * 4 }
     ensures { part.new ≡ tabulate (length part.old) (lined (T.line transform (2 ^ 64)) stride 3 (at part.old)) }

@@ -22,21 +22,20 @@ pub use falling::ToFalling;
 pub use powers::ToPowers;
 pub use transform::{FourTransform, LineTransform, OfNumber};
 
-// Whether the box of `degrees` has as many cells as the table has numbers. A table has fewer than 2^60 of them, so that a product from there on is not
-// taken.
+// Whether the box of `degrees` has as many cells as the table has numbers. `settings` counts cells too, to a limit: this count ends at the table's length, and
+// needs no crate of refusals.
 pub fn has_box(table: &[u64], degrees: &[u8]) -> bool
     ensures { result ≡ (length table.now == cells degrees.now) }
 {
-    let mut size = 1;
+    let mut size: usize = 1;
     for degree in degrees {
-        let count = *degree as usize + 1;
-        if 0x0100_0000_0000_0000 <= size && 16 <= count {
+        let Some(next) = size.checked_mul(*degree as usize + 1) else {
+            return false;
+        };
+        if table.len() < next {
             return false;
         }
-        size = size * count;
-        if table.len() < size {
-            return false;
-        }
+        size = next;
     }
     table.len() == size
 }

@@ -8,8 +8,8 @@ ghost use Rattle.lines.specs.TransformLaws.{power_of_mul};
 
 use crate::{Block, FourTransform, LineTransform};
 
-// A pass over a block, towards powers: every coefficient from index `pass` on, the lowest first, gets `pass` times the next one subtracted. Two a turn,
-// by `while`: the last one may be left over.
+// A pass over a block, towards powers: every coefficient from index `pass` on, the lowest first, gets `pass` times the next one subtracted. Two a turn, as in
+// falling.rt.
 fn undivide(part: &mut [u64], block: Block, pass: usize)
     requires { (0 < pass) × (pass ≤ block.degree) × (length part.old ≡ size block) }
     ensures { Opens (to_powers (2 ^ 64)) block (suc pass) pass part.old part.new }

@@ -28,7 +28,8 @@ pub trait FourTransform: Copy {
     ghost of_mul: { (x : Self) → OfMul (line x) };
 }
 
-// How it is done to the lines of a table, in place and modulo 2^64.
+// How it is done to the lines of a table, in place and modulo 2^64. That a table is cut into lines or blocks of one length is asked of its length in each
+// contract: it is a slice, lent anew for each part, and no type with a clause of its own.
 pub trait LineTransform: FourTransform {
     // Whether lines of a degree stay as they are.
     fn leaves_lines(self, degree: u8) -> bool

@@ -8,7 +8,7 @@ ghost use Rattle.math_utils.specs.Falling.{falling_said, Stops};
 use answers::Refusal;
 
 // A product, with the number of factors that were taken.
-#[derive(Clone, Copy, Debug, PartialEq, Eq, Hash)]
+#[derive(Clone, Copy, Debug, Default, PartialEq, Eq, Hash)]
 pub struct FallingProduct {
     pub value: u64,
     pub factors: u64,

@@ -38,8 +38,9 @@ impl Kind {
     }
 }
 
-// An entry from the one above and the one left of that. That the width is at most 64 stands here and in the two functions below as it is: a struct around
-// one number would be no plainer.
+// An entry from the one above and the one left of that. That the width is at most 64 stands here and in the two functions below. `two_adic_solver` has
+// `Width` for it, with methods, in a crate above this one; here the width is only handed on to one sum, so that a struct would be made in one place and read
+// in one.
 fn next_entry(left: u64, factor: u64, above: u64, bitwidth: u32) -> u64
     requires { bitwidth ≤ 64 }
     ensures { result ≡ (left + factor * above) % 2 ^ bitwidth }

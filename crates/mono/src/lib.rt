@@ -37,7 +37,7 @@ impl MonomialKey {
             return Err(Refusal::OutOfRange);
         }
         let mut exponents = [0; 20];
-        // Twenty are a whole key. Entry by entry: a key that is read as a whole waits for a copy of its first part (17 ns a call and not 12)
+        // Written entry by entry, a whole key of twenty: after a copy of the first part the reader of the key waits for it (17 ns a call; written so, 12).
         for (i, exponent) in exponents.iter_mut().enumerate() {
             if i < count {
                 *exponent = exps[i];
@@ -72,7 +72,7 @@ impl MonomialKey {
         Ok(())
     }
 
-    // The exponent of a variable, or 11 from variable 20 on, with the key.
+    // The exponent of a variable, or 11 from variable 20 on. The key is given back, as document 01 asks.
     pub fn exponent_at(self, var_index: u8) -> (Result<u8, Refusal>, Self)
         ensures says { said result.0 ≡ exponent_reply var_index self.exponents }
         ensures keeps { result.1.exponents ≡ self.exponents }

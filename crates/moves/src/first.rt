@@ -8,14 +8,15 @@ ghost use Rattle.moves.specs.NodeLines.{EachLine, GetsAdded, Passes, Moves, each
 
 use crate::pairs::{Pairs, make_passes};
 
-// The lines, of degree + 1 numbers each, and the offset that they are moved by.
+// The lines, of degree + 1 numbers each, and the offset that they are moved by. The part and the pass stand beside it, as both change from call to call.
 #[derive(Clone, Copy, Debug, PartialEq, Eq)]
 pub(crate) struct Lines {
     pub(crate) degree: usize,
     pub(crate) offset: u64,
 }
 
-// In every line number `place` gets `factor` times the next number added. No call of the next function does that: the last line has no number two above.
+// In every line number `place` gets `factor` times the next number added. The next function with `far` = 0 would leave out the last line,
+// whose number has none two above it.
 fn add_next(part: &mut [u64], degree: usize, place: usize, factor: u64)
     requires { (place < degree) × (degree < length part.old) }
     ensures { EachLine degree (GetsAdded (2 ^ 64) place factor 0) part.old part.new }
@@ -44,8 +45,8 @@ fn add_numbers(part: &mut [u64], degree: usize, place: usize, near: u64, far: u6
     }
 }
 
-// The passes `done` + 1 and `done` over every line at once. The last number has no number two above it. One loop over a trait, for this one, a single line and
-// the rows of a block, takes one to five in a hundred more instructions on blocks, by index or by place; for the two here it would take two more instances.
+// The passes `done` + 1 and `done` over every line at once. The last number has no number two above it. One loop over a trait for the three pairs (here, below,
+// `Rows::two`) takes 1 to 5 percent more instructions on blocks.
 fn move_number_pair(part: &mut [u64], lines: Lines, done: usize)
     requires { (suc done < lines.degree) × (lines.degree < length part.old) }
     ensures { EachLine lines.degree (Passes (2 ^ 64) lines.offset lines.degree (suc (suc done)) done) part.old part.new }

@@ -42,7 +42,7 @@ pub(crate) fn make_passes<P: Pairs>(pairs: P, part: &mut [u64])
         done -= 1;
         pairs.alone(part, done);
     }
-    // An index by hand: it goes down by two.
+    // An index by hand: over `(0..done / 2).rev()` a block takes two instructions more.
     while 0 < done {
         done -= 2;
         pairs.two(part, done);

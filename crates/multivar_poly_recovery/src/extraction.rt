@@ -2,7 +2,9 @@
 // the last variable are a part of the table, for which the bits that are left and the inverse so far are handed on. In a large box the first variables,
 // as many as have 256 cells or fewer together, make rows: for each cell of a row the mask and the inverse are laid out once. In a small one the walk ends
 // at lines, along which the mask loses its bits. Each walk ends at the first difference that is not divisible as it has to be, with `None`. The table
-// and the degrees stay two parameters: each function cuts both anew.
+// and the degrees are two parameters: each function cuts both anew. The walk is no `Job` of box_rows: there a cell has its mask alone, and here it needs an
+// inverse beside the bits that are left. Loops have an index, which their invariants speak of: a loop over `zip` has none, and of parts that an iterator
+// lends no proof knows what they end as.
 ghost use Rattle.std.specs.Prelude.{◌≡◌, ℕ, suc, ◌-◌, ◌*◌, ◌/◌, ◌%◌, ◌^◌, ◌<◌, ◌≤◌, min, cond, List, [], ◌∷◌, length, take, ◌==◌};
 ghost use Rattle.std.specs.Option.{is_some};
 ghost use Rattle.meaning.specs.Factorials.{twos};
@@ -72,8 +74,8 @@ struct Left {
 }
 
 // The tables of a box: the inverses by exponent, and of its first variables, which make its rows, the degrees, and for each cell of a row the mask and the
-// inverse. They are copied and no more, since to compare or print them would go over all their numbers.
-#[derive(Clone, Copy)]
+// inverse.
+#[derive(Clone, Copy, Debug, PartialEq, Eq)]
 struct Tables<'a> {
     inverses: &'a [u64],
     row: &'a [u8],
@@ -229,9 +231,9 @@ impl Left {
     }
 }
 
-// A box by rows, in a function by itself, so that small boxes do not pay for its tables. It and the next two take the width and make `Left` of it: where `Left`
-// was handed to them the compiler did not see that the inverse is 1, and a line of 16 took 5 percent longer. A struct of degrees and width would spare each of
-// them and `extract` one clause of two, since the table's length stays one: that would be no plainer.
+// A box by rows, in a function by itself, so that small boxes do not pay for its tables. `Left` is made here and in the next function: handed to them, it hides
+// from the compiler that the inverse is 1, and a line of 16 takes 5 percent longer. A struct of degrees and width would save one of two clauses, since that of
+// the table's length would be left: no plainer.
 #[inline(never)]
 fn by_rows(table: &mut [u64], degrees: &[u8], bitwidth: u32) -> Option<()>
     requires { (length table.old ≡ cells degrees.now) × (bitwidth ≤ 64) }
@@ -271,7 +273,7 @@ fn by_lines(table: &mut [u64], degrees: &[u8], bitwidth: u32) -> Option<()>
     Left::whole(bitwidth).boxes(table, degrees, &tables)
 }
 
-// Rows pay from some hundred cells on.
+// By rows above 256 cells, and where a degree is above 15, for which the short table has no inverse.
 fn whole(table: &mut [u64], degrees: &[u8], bitwidth: u32) -> Option<()>
     requires { (length table.old ≡ cells degrees.now) × (bitwidth ≤ 64) }
     ensures { Extracted bitwidth degrees.now [] table.old table.new (is_some result) }

@@ -3,7 +3,7 @@
 ghost use Rattle.std.specs.Prelude.{◌≡◌, ◌*◌, ◌/◌, ◌%◌, ◌^◌, ◌<◌, length};
 ghost use Rattle.meaning.specs.Tables.{tabulate, at};
 
-// The numbers of `from` times 2^by, modulo 2^64.
+// The numbers of `from` times 2^by, modulo 2^64. The loop has an index, which its invariant speaks of: a loop over `zip` has none.
 pub(crate) fn raise(from: &[u64], to: &mut [u64], by: u32)
     requires { (by < 64) × (length from.now ≡ length to.old) }
     ensures { to.new ≡ tabulate (length to.old) (λ n. (at from.now n * 2 ^ by) % 2 ^ 64) }

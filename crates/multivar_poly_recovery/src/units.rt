@@ -9,8 +9,8 @@ ghost use Rattle.multivar_poly_recovery.specs.Products.{times, times_zeroth, tim
 
 use box_rows::layout::CellNumbers;
 
-// The inverses of the odd parts of 0!, 1! and so on. It is copied and no more, since to compare or print it would go over all its numbers.
-#[derive(Clone, Copy)]
+// The inverses of the odd parts of 0!, 1! and so on.
+#[derive(Clone, Copy, Debug, PartialEq, Eq)]
 pub(crate) struct OddInverses<'a> {
     pub(crate) table: &'a [u64],
     pub(crate) ghost serve: { Inverses table.now },
@@ -41,6 +41,7 @@ impl CellNumbers for OddInverses<'_> {
     ghost more = { λ x es e some small. times_more x.table.now 1 es e };
 }
 
+// Apart from the table of 256, which a small box would copy.
 const FIRST_INVERSES: [u64; 16] = [
     0x0000000000000001,
     0x0000000000000001,

@@ -5,7 +5,8 @@ ghost use Rattle.meaning.specs.Tables.{at};
 ghost use Rattle.meaning.specs.Sums.{sum};
 ghost use Rattle.poly.specs.Shapes.{Shaped, HasValue};
 
-// The sum, modulo 2^64, of the coefficients of a line, each times the falling product to its exponent.
+// The sum, modulo 2^64, of the coefficients of a line, each times the falling product to its exponent. `two_adic_solver` has such a sum too: one function for
+// both would need a place below the two crates and save three lines. The loop has an index, which its invariant speaks of: a loop over `zip` has none.
 fn line_value(coeffs: &[u64], products: &[u64]) -> u64
     requires { length coeffs.now ≤ length products.now }
     ensures { result ≡ sum (length coeffs.now) (λ i. at products.now i * at coeffs.now i) % 2 ^ 64 }
@@ -18,7 +19,9 @@ fn line_value(coeffs: &[u64], products: &[u64]) -> u64
 }
 
 // A number that has the value of a coefficient box in its low bits: of as many bits as the falling products have, which stand in `products`, `size` places
-// for each variable. Where a falling product of the last variable is zero, so are those behind it, and no more sub-boxes are looked into.
+// for each variable. Where a falling product of the last variable is zero, so are those behind it, and no more sub-boxes are looked into. The loop has an
+// index and the place of its sub-box, which with `chunks_exact` would be read off an iterator. Table and `size` go through all calls as they are: as a struct
+// they would need a clause of the struct for the two bounds that are asked.
 pub(crate) fn box_value(coeffs: &[u64], degrees: &[u8], products: &[u64], size: usize) -> u64
     requires shaped { Shaped size degrees.now coeffs.now }
     requires size_in_bounds { length degrees.now * size ≤ length products.now }

@@ -1,6 +1,5 @@
-// The value of a box at a point, with the room that the falling products of the point's coordinates need, in two sizes. What is asked of stays five parameters:
-// as a struct it was tried. By reference a value of four cells took 2 percent more instructions, by value one of two variables of degree 31 took 0.4 percent
-// more, since the large room's function then reads its arguments from memory.
+// The value of a box at a point, with the room that the falling products of the point's coordinates need, in two sizes. Five parameters and no struct: with
+// one, by reference, a value of four cells takes 2 percent more instructions, by value one of two variables of degree 31 takes 0.4 percent more.
 ghost use Rattle.std.specs.Prelude.{◌≡◌, ◌*◌, ◌^◌, ◌<◌, ◌≤◌, true, length};
 ghost use Rattle.meaning.specs.Settings.{fits_width};
 ghost use Rattle.meaning.specs.Values.{value};
@@ -8,7 +7,8 @@ ghost use Rattle.poly.specs.Shapes.{Products, Asked};
 
 use crate::cells;
 
-// Fills the table, which has `size` places for each coordinate, with the falling products of the coordinates, one coordinate behind the other.
+// Fills the table, which has `size` places for each coordinate, with the falling products of the coordinates, one coordinate behind the other. No call is
+// refused: the width fits. The parts are lent by place: of those that an iterator lends no proof knows what they end as.
 fn point_products(table: &mut [u64], size: usize, point: &[u64], bitwidth: u32)
     requires { (fits_width bitwidth ≡ true) × (length table.old ≡ length point.now * size) }
     ensures { Products bitwidth (length point.now) size point.now table.new }

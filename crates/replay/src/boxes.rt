@@ -1,6 +1,6 @@
 // The conversions, the normal form, recovery and singleton powers. A case is `OP WIDTH DEGREE K CELLS` and CELLS numbers, with OP 1 to_factorial_basis,
 // 2 to_monomial_basis, 3 normalize_polynomial, 4 recover_multivar_poly, 5 recover_singleton_powers (DEGREE 0, K variables); the support is the first K
-// variables. The number of the answer and the table that is left are printed.
+// variables. The number of the answer and the table that is left are printed. Each OP is another call, and has an arm of its own.
 use crate::calls::BoxCall;
 use crate::print;
 use answers::Refusal;

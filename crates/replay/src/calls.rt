@@ -1,4 +1,4 @@
-// The calls that are replayed, by the number that begins a case.
+// The calls that are replayed, by the number that begins a case. Each number is another call, and has an arm of its own in the match.
 ghost use Rattle.replay.specs.Calls.{Names};
 
 use answers::Refusal;
@@ -21,7 +21,7 @@ pub(crate) enum System {
     Fit,
 }
 
-// The kinds of a Stirling table.
+// The kinds of a Stirling table. The type that `math_utils` has for them is private: its two tables are built by two public functions.
 #[derive(Clone, Copy, Debug, PartialEq, Eq)]
 pub(crate) enum Kind {
     First,

@@ -1,6 +1,6 @@
 // The leaves. A case is `OP A B C`, with OP 21 wrapping_mul, 22 bitmask, 23 mod_add, 24 mod_sub, 25 mod_mul, 26 mod_neg, 27 twos_in_factorial,
-// 28 precision_bits, 29 degree_cap, 30 odd_part_factorial, 31 mod_inverse_odd, 32 and 33 an entry of the Stirling table of the second and first kind. The number of the answer
-// and its value are printed.
+// 28 precision_bits, 29 degree_cap, 30 odd_part_factorial, 31 mod_inverse_odd, 32 and 33 an entry of the Stirling table of the second and first kind. The
+// number of the answer and its value are printed. Each OP is another call, and has an arm of its own in the matches.
 use crate::calls::{Kind, Leaf};
 use crate::print::{low8, low32};
 use answers::Refusal;

@@ -69,7 +69,7 @@ fn read_full<R: Read>(source: &mut R, text: &mut [u8]) -> io::Result<usize>
     ensures { IfOk result (λ size. size ≤ length text.new) }
 {
     let mut done = 0;
-    // Each read decides how far a turn goes, so that no range has the turns.
+    // Each read decides how far a turn goes, so that no range has the turns. A `for` with a number of turns that no run uses up would be no plainer.
     while done < text.len() {
         let size = source.read(&mut text[done..])?;
         if size == 0 {

@@ -1,6 +1,6 @@
 // How many columns a fit has, without listing them: for each largest sum the exponent lists that keep it, one variable after another. The library has no heap,
-// so the counts are in arrays, of which the part up to the largest sum is lent. That the box has at most 65,536 cells stands in three contracts, since it is
-// known of the settings, and no type of the degrees holds it.
+// so the counts are in arrays, of which the part up to the largest sum is lent. That the box has at most 65,536 cells stands in three contracts: a type for
+// it would be made and read in this file alone.
 ghost use Rattle.std.specs.Prelude.{◌≡◌, cond, ℕ, suc, ◌-◌, ◌≤◌, ◌<◌, min, ltb, length};
 ghost use Rattle.meaning.specs.Tables.{tabulate, at};
 ghost use Rattle.meaning.specs.Sums.{sum};
@@ -38,7 +38,7 @@ fn add_variable(counts: &mut [u64], next: &mut [u64], degree: u8)
     ensures { counts.new ≡ tabulate (length counts.old) (λ s. sum (suc (min degree s)) (λ e. at counts.old (s - e))) }
 {
     sum_up(counts, degree, next);
-    tables::copy(next, counts);
+    counts.copy_from_slice(next);
 }
 
 // The counts of one variable of that degree: its exponents are 0, 1, .., the smaller of the degree and the largest sum.
@@ -51,7 +51,8 @@ fn count_one(counts: &mut [u64], degree: u8)
     }
 }
 
-// The columns for each largest sum that `counts` has a place for: those of the last variable, then one variable after another. `next` is used up.
+// The columns for each largest sum that `counts` has a place for: those of the last variable, then one variable after another. `next` is used up. By
+// the index: over `iter().rev()` the loop would keep four things where it keeps two, since what the iterator has left is one of them.
 fn count_lists(counts: &mut [u64], next: &mut [u64], degrees: &[u8])
     requires { (length next.old ≡ length counts.old) × (cells degrees.now ≤ 65536) × (0 < length degrees.now) }
     ensures { counts.new ≡ tabulate (length counts.old) (λ s. length (columns degrees.now s)) }

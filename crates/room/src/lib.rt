@@ -15,7 +15,7 @@ use answers::Refusal;
 use settings::Settings;
 
 // The counts of a grid that recovery takes.
-#[derive(Clone, Copy, Debug, PartialEq, Eq)]
+#[derive(Clone, Copy, Debug, Default, PartialEq, Eq)]
 pub struct RecoveryRoom {
     pub cells: u64,
     pub subtractions: u64,

@@ -38,16 +38,14 @@ impl<'a> FitSettings<'a> {
         ensures { result ≡ answer_of self.now }
     {
         Settings {
-            support: self.support,
-            total: self.total,
-            bitwidth: self.bitwidth,
             max_degree: self.max_degree.min(self.grid_degree),
+            ..self.grid()
         }
     }
 }
 
 // The counts of a fit.
-#[derive(Clone, Copy, Debug, PartialEq, Eq)]
+#[derive(Clone, Copy, Debug, Default, PartialEq, Eq)]
 pub struct FitRoom {
     pub rows: u64,
     pub columns: u64,

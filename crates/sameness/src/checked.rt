@@ -1,4 +1,5 @@
-// Forms that passed their checks, and the variables of one looked up in another.
+// Forms that passed their checks, and the variables of one looked up in another. Loops have an index, which their invariants speak of: a loop over `zip` has
+// none.
 ghost use Rattle.std.specs.Prelude.{◌≡◌, true, length, take};
 ghost use Rattle.meaning.specs.Sameness.{within};
 ghost use Rattle.sameness.specs.Places.{strides, lookup, lookups};
@@ -7,7 +8,7 @@ ghost use Rattle.sameness.specs.Partners.{limits_of, steps_of};
 
 use crate::partner::Partner;
 
-// The support, a degree for each of its variables, and a coefficient for each cell.
+// The support, a degree for each of its variables, and a coefficient for each cell. The degrees have a slice of their own, as `box_rows` takes them.
 #[derive(Drop)]
 pub(crate) struct Checked<'a> {
     pub(crate) support: &'a [u64],

@@ -1,7 +1,7 @@
 // Sameness of forms: whether two forms have equal values modulo 2^w at every whole-number point, whatever their supports, orders and degrees.
 #![tactic(auto)]
 
-ghost use Rattle.std.specs.Prelude.{◌≡◌, ◌&&◌, ◌≤◌};
+ghost use Rattle.std.specs.Prelude.{◌≡◌, ℕ, ◌&&◌, ◌≤◌};
 ghost use Rattle.meaning.specs.Sameness.{matched};
 ghost use Rattle.meaning.specs.Calls.{same_reply};
 ghost use Rattle.theory.specs.Scattered.{Places};
@@ -40,12 +40,10 @@ fn matched_in(form1: &Checked, form2: &Checked, bits: u32) -> bool
     whole.matches(form2.coeffs)
 }
 
-// Whether two forms over `total` variables are the same. With equal settings the boxes are compared cell by cell. Else every coefficient of either is to be
-// matched in the other; a box that lies within the other one need not be walked.
-fn same_boxes(form1: &Checked, form2: &Checked, total: u32, bits: u32) -> bool
-    requires few { bits ≤ 64 }
-    requires places { Places total form1.now.support.now × Places total form2.now.support.now }
-    ensures { let f = form1.now in let g = form2.now in
+// Whether two checked forms with equal totals and widths are the same. With equal supports and degrees the boxes are compared cell by cell. Else every coefficient of either is to be matched in the other; a box that lies within the other one need not be walked.
+fn same_boxes(form1: &Checked, form2: &Checked, bits: u32) -> bool
+    requires { bits ≤ 64 }
+    ensures { let f = form1.now in let g = form2.now in (total : ℕ) → Places total f.support.now → Places total g.support.now →
         let f' = form total bits f.support.now f.degrees.now f.coeffs.now in let g' = form total bits g.support.now g.degrees.now g.coeffs.now in
         result ≡ (matched f' g' && matched g' f') }
 {
@@ -92,10 +90,5 @@ pub fn same(form1: &Form, form2: &Form) -> Result<bool, Refusal>
         degrees: degrees2.as_slice(),
         coeffs: form2.coeffs,
     };
-    Ok(same_boxes(
-        &checked1,
-        &checked2,
-        form1.settings.total,
-        form1.settings.bitwidth,
-    ))
+    Ok(same_boxes(&checked1, &checked2, form1.settings.bitwidth))
 }

@@ -10,6 +10,9 @@ pub(crate) struct Partner {
     pub(crate) ghost short: { step ≤ 65536 },
 }
 
+// 2^40: past the end of every table of coefficients, and twenty such ways together are below 2^64.
+const FAR: u64 = 0x0100_0000_0000;
+
 impl Partner {
     // How far the exponent e leads: one above the limit far past the end of every table of coefficients, where every coefficient is 0.
     pub(crate) fn way(&self, e: usize) -> u64
@@ -20,6 +23,6 @@ impl Partner {
         if e <= self.limit as usize {
             return e as u64 * self.step;
         }
-        1099511627776
+        FAR
     }
 }

@@ -49,7 +49,7 @@ impl Part<'_> {
     }
 
     // Whether each coefficient of the box is, modulo its bound, the one at its place in `other`: each sub-box of the last variable in turn, up to the first
-    // with a coefficient that is not. Where no bits are left nothing counts.
+    // with a coefficient that is not. Where no bits are left nothing counts. The sub-boxes are cut by their places, of which the invariant speaks.
     pub(crate) fn matches(&self, other: &[u64]) -> bool
         ensures { let p = self.now in result ≡ every (cells p.degrees.now)
             (is_match p.bits p.degrees.now p.coeffs.now (limits_of p.partners.now) (steps_of p.partners.now) other.now p.place) }

@@ -3,7 +3,7 @@ ghost use Rattle.std.specs.Prelude.{◌≡◌, ℕ, ◌≤◌, List, min, length
 
 use std::marker::Model;
 
-// At most twenty degrees, the first ones of twenty places.
+// At most twenty degrees, the first ones of twenty places. There is no heap: the places are an array.
 #[derive(Drop)]
 pub struct Degrees {
     places: [u8; 20],

@@ -30,7 +30,7 @@ pub fn width_fits(bitwidth: u32) -> bool
     bitwidth <= 64
 }
 
-// The cells of a box, or one more than the limit where there are more.
+// The cells of a box, or one more than the limit where there are more: a number and no Option, since the definition is a minimum.
 pub fn count_cells(degrees: &[u8], limit: u32) -> u64
     ensures { result ≡ min (cells degrees.now) (limit + 1) }
 {
@@ -65,7 +65,8 @@ impl<'a> Settings<'a> {
     }
 
     // The cells of the box, at most `limit`, or the first cause to turn it down, in the order 1, 2, 3, 4, 5, 7, 8. `strict` says that degree 0 is turned down
-    // (4), `fits` that the width passes (3).
+    // (4), `fits` that the width passes (3). Flags, here and below, since the definitions (`limited_number`, `settings_reply`, `in_out_number`) take these
+    // tests as Bools.
     pub fn check_within(&self, limit: u32, strict: bool, fits: bool) -> Result<u64, Refusal>
         ensures { let s = self.now in said result ≡ reply (limited_number limit strict s.total fits s.support.now (degrees_of s)) (cells (degrees_of s)) }
     {

@@ -14,7 +14,8 @@ fn index_past(support: &[u64], total: u32) -> bool
     support.iter().any(|index| limit <= *index)
 }
 
-// Whether some index stands twice, of indices below the number of variables. It ends at the first that was seen before.
+// Whether some index stands twice, of indices below the number of variables. It ends at the first that was seen before. There is no heap: the marks are an
+// array, with a place for each index that there may be.
 fn index_twice(support: &[u64], total: u32) -> bool
     requires { (total ≤ 20) × (some (leb total) support.now ≡ false) }
     ensures { result ≡ repeated support.now }

@@ -11,9 +11,6 @@ use Rattle.meaning.specs.Recovery.{every, accepts, answer}
 use Rattle.meaning.specs.Settings.{fits_width, some, repeated, settings_number, limited_number, call_number, first}
 use Rattle.meaning.specs.Calls.{left, in_out_number, recovery_number, recovery_left}
 use Rattle.meaning.specs.Singletons.{one_line, line, singleton_accepts, singleton_answer, singleton_settings, singleton_number, singleton_left}
-use Rattle.answers.specs.declared.Refusal.{Refusal}
-use Rattle.answers.specs.Said.{code}
-use Rattle.answers.specs.Laws.{code-suc}
 use Rattle.theory.specs.Tables.{Filled, filled_start, eq-tabulate, length-tabulate}
 use Rattle.theory.specs.Parts.{part, put, length_part, filled_part}
 use Rattle.theory.specs.Every.{every-iff}
@@ -93,8 +90,9 @@ module _ (w : ℕ) (v out : List ℕ) (fits : fits_width w ≡ true) (long : 2 �
       yes-accepts : accepts w (one_line (length v)) v ≡ true
       yes-accepts = is_zero _ (e ∙ decides)
 
-  pub single_refused : {t : List ℕ} (r : Refusal) → code r ≡ recovery_number 1 w (0 ∷ []) ((length v - 1) ∷ []) v out → Single w v t (code r)
-  single_refused r e = record { says = e ∙ decides; leaves = λ q. absurd (suc-ne-zero (pred (code r)) (sym (code-suc r) ∙ q)) }
+  -- any number but 0
+  pub single_refused : {t : List ℕ} {n k : ℕ} → n ≡ suc k → n ≡ recovery_number 1 w (0 ∷ []) ((length v - 1) ∷ []) v out → Single w v t n
+  single_refused {k = k} p e = record { says = e ∙ decides; leaves = λ q. absurd (suc-ne-zero k (sym p ∙ q)) }
 
 -- ---- the lines
 
@@ -182,17 +180,17 @@ module _ (w size : ℕ) (v t₀ : List ℕ) where
               ∙ ap₂ (λ (q k : ℕ). cond (eqb k 0) 0 (at (answer w (one_line size) (line size v q)) k)) (sym d) (sym m)
 
       -- a line is not accepted
-      pub lines_fail : {t' : List ℕ} {n : ℕ} → length v ≡ n * size → (r : Refusal)
-          → Single w (part from (from + size) v) ys (code r) → Singles w size n v t' (code r)
+      pub lines_fail : {t' : List ℕ} {n : ℕ} → length v ≡ n * size → {a k : ℕ} → a ≡ suc k
+          → Single w (part from (from + size) v) ys a → Singles w size n v t' a
       unfolding singleton_accepts
-      lines_fail {t'} {n} whole r' s =
+      lines_fail {t'} {n} whole {k = k} q s =
           record {
             says = s.says ∙ ap (λ (b : Bool). cond b 0 6) (no ∙ sym (not-all (every n p) refl));
-            leaves = λ e. absurd (suc-ne-zero (pred (code r')) (sym (code-suc r') ∙ e));
+            leaves = λ e. absurd (suc-ne-zero k (sym q ∙ e));
           }
         where
           no : accepts w (one_line (length (part from (from + size) v))) (part from (from + size) v) ≡ false
-          no = not-zero _ (sym (code-suc r') ∙ s.says)
+          no = not-zero _ (sym q ∙ s.says)
 
           p : ℕ → Bool
           p i = accepts w (one_line size) (line size v i)

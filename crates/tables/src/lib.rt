@@ -4,7 +4,8 @@
 ghost use Rattle.std.specs.Prelude.{◌≡◌, cond, eqb, length, ◌%◌, ◌^◌, min};
 ghost use Rattle.meaning.specs.Tables.{tabulate, at};
 
-// Makes `to` equal to `from`, where both have the same length, which the library's method asks of its caller; else leaves it as it is. `from` is not altered.
+// Makes `to` equal to `from`, where both have the same length, and else leaves it as it is: a copy that asks nothing of its caller, where `copy_from_slice`
+// asks for equal lengths. `from` is not altered.
 pub fn copy(from: &[u64], to: &mut [u64])
     ensures { to.new ≡ cond (eqb (length from.now) (length to.old)) from.now to.old }
 {

@@ -36,7 +36,7 @@ fn find_pivot<S: System>(system: &S, column: usize) -> Option<usize>
 }
 
 // One column: its pivot row is found, noted in `answer`, marked as used, and subtracted from the rows that are not used. Without a pivot the number of
-// rows is noted.
+// rows is noted, which is no row: the lent answer holds the pivot rows, since there is no heap.
 fn eliminate_column<S: System>(
     system: &mut S,
     answer: &mut [u64],

@@ -1,5 +1,5 @@
-// Room for the marks of the used rows, in two sizes. The lent tables stay parameters here: with a table as one parameter each contract would have to say
-// that both lent tables are still the same.
+// Room for the marks of the used rows, in two sizes: there is no heap. The lent tables are parameters here: with a table as one parameter each contract would
+// have to say that both lent tables are still the same.
 ghost use Rattle.std.specs.Prelude.{◌≡◌, ℕ, ◌<◌, ◌≤◌, false, length, slice_index_or};
 ghost use Rattle.two_adic_solver.specs.Rows.{Sizes};
 ghost use Rattle.two_adic_solver.specs.Solved.{Finished};
@@ -45,6 +45,7 @@ fn solve_within<const ROWS: usize>(
     requires marks { (length right.old ≤ ROWS) × (ROWS ≤ 65536) }
     ensures { Finished width.bits columns matrix.old right.old matrix.new right.new answer.new (said_number result) }
 {
+    // There is no heap: an array with a mark for each row that there is room for.
     let mut used = [false; ROWS];
     solve_table(matrix, right, &mut used, columns, width, answer)
 }

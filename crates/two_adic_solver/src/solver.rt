@@ -1,4 +1,4 @@
-// The bare solver of linear systems modulo 2^w.
+// The bare solver of linear systems modulo 2^w. Matrix, right side and width are parameters by themselves, as the C interface has them.
 ghost use Rattle.std.specs.Prelude.{◌≡◌};
 ghost use Rattle.meaning.specs.Elimination.{solver_number, solver_matrix, solver_right, solver_answer};
 ghost use Rattle.two_adic_solver.specs.Solves.{Solves};
@@ -25,10 +25,10 @@ fn solve_checked(
     if !settings::width_fits(bitwidth) {
         return Err(Refusal::WidthOutOfRange);
     }
-    if 65536 < matrix.len() {
+    if (settings::TABLE_LIMIT as usize) < matrix.len() {
         return Err(Refusal::TooLarge);
     }
-    if 65536 < columns {
+    if (settings::TABLE_LIMIT as usize) < columns {
         return Err(Refusal::TooLarge);
     }
     if columns == 0 {

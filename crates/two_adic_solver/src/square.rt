@@ -25,22 +25,16 @@ fn reduce_rows(matrix: &mut [[u64; 4]; 4], width: Width)
     }
 }
 
-// Row `target` less q times row `source`, from a column on.
-fn subtract_row(
-    matrix: &mut [[u64; 4]; 4],
-    source: usize,
-    target: usize,
-    column: usize,
-    q: u64,
-    width: Width,
-)
-    requires { Square matrix.old × (source < 4) × (target < 4) × (column < 4) }
-    ensures { Square matrix.new × Subtracted (2 ^ width.bits) q (target * 4 + column) (4 - column)
-        (λ k. at (joined matrix.old) (source * 4 + column + k)) (joined matrix.old) (joined matrix.new) }
+// Row `target` less q times the pivot row, from the pivot's column on.
+fn subtract_row(matrix: &mut [[u64; 4]; 4], pivot: Pivot, target: usize, q: u64)
+    requires { Square matrix.old × (pivot.row < 4) × (target < 4) × (pivot.column < 4) }
+    ensures { Square matrix.new × Subtracted (2 ^ pivot.width.bits) q (target * 4 + pivot.column) (4 - pivot.column)
+        (λ k. at (joined matrix.old) (pivot.row * 4 + pivot.column + k)) (joined matrix.old) (joined matrix.new) }
 {
-    // An index by hand: two rows of one array.
-    for k in column..4 {
-        matrix[target][k] = width.less(matrix[target][k], q, matrix[source][k]);
+    // An index by hand: two rows of one array. `Width::subtract_row` on a part of the one and a copy of the other was tried, and what the array then has was
+    // not proved.
+    for k in pivot.column..4 {
+        matrix[target][k] = pivot.width.less(matrix[target][k], q, matrix[pivot.row][k]);
     }
 }
 
@@ -57,6 +51,7 @@ pub(crate) struct Four {
 
 impl Four {
     // Clears the pivot's column in one row, unless it is used: the pivot row is subtracted as often as it takes, from that column on and in the right side.
+    // The table's `clear_row` is another: it is lent its rows and a copy of a part of the pivot row, where this one reads the pivot row in its place.
     fn clear_row(&mut self, pivot: Pivot, row: usize)
         requires { (pivot.column < 4) × (pivot.row < 4) × (row < 4) }
         ensures kept { (self.new.used ≡ self.old.used) × (self.new.width.bits ≡ self.old.width.bits) }
@@ -77,14 +72,7 @@ impl Four {
             return;
         }
         let q = pivot.multiplier(entry);
-        subtract_row(
-            &mut self.entries,
-            pivot.row,
-            row,
-            pivot.column,
-            q,
-            pivot.width,
-        );
+        subtract_row(&mut self.entries, pivot, row, q);
         self.right[row] = pivot.width.less(self.right[row], q, self.right[pivot.row]);
     }
 }

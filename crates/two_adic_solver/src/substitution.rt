@@ -31,7 +31,8 @@ pub(crate) fn rights_vanish(right: &[u64], used: &[bool]) -> bool
         .all(|(side, used)| *used || *side == 0)
 }
 
-// The sum of the products of two lists, modulo 2^64.
+// The sum of the products of two lists, modulo 2^64. `poly` has such a sum too, of a line of coefficients: one function for both would need a place below the
+// two crates, and save three lines.
 fn dot(row: &[u64], x: &[u64]) -> u64
     requires { length row.now ≤ length x.now }
     ensures { result ≡ sum (length row.now) (λ k. at row.now k * at x.now k) % 2 ^ 64 }

@@ -1,5 +1,6 @@
 // A system of equations modulo 2^w: a matrix, and a right side and a mark for each of its rows. What the elimination reads of it, and does to it.
 // Contracts speak of the matrix as its rows one behind the other. The answer is no part of a system: each method would have to say that it stays as it is.
+// That a column is below the number of columns is a clause: a type that says so would have to have that number in it.
 ghost use Rattle.std.specs.Prelude.{◌≡◌, ℕ, ◌+◌, ◌*◌, ◌%◌, ◌^◌, ◌<◌, ◌≤◌, Bool, true, List, length, slice_set};
 ghost use Rattle.meaning.specs.Tables.{tabulate, at};
 ghost use Rattle.meaning.specs.Factorials.{twos_of};

@@ -94,10 +94,9 @@ fn clear_part(
 fn span(list: &[u64]) -> usize
     ensures { (result ≤ length list.now) × ((j : ℕ) → result ≤ j → at list.now j ≡ 0) }
 {
-    match list.iter().rposition(|n| *n != 0) {
-        Some(last) => last + 1,
-        None => 0,
-    }
+    list.iter()
+        .rposition(|n| *n != 0)
+        .map_or(0, |last| last + 1)
 }
 
 // Where a part that ends at `end` begins: at the column, if the room is large enough.
@@ -135,7 +134,7 @@ fn clear_in_parts(
     let pivot = Pivot::new(entries[start + column], row, column, width);
     let mut side = right[row];
     let mut end = column + span(&entries[start + column..start + columns]);
-    // An end by hand: each part ends where the one before it began.
+    // No iterator has these ends: `rchunks` would lend the row while its table is written.
     while column < end {
         let from = part_start(column, end, room.len());
         clear_part(entries, right, used, room, side, columns, pivot, from, end);

@@ -1,4 +1,5 @@
-// Numbers modulo 2^w: reduced, their twos, and a multiple of one subtracted from another, one by one and along a row.
+// Numbers modulo 2^w: reduced, their twos, and a multiple of one subtracted from another, one by one and along a row. Number, multiplier and the other number
+// are parameters by themselves: they come from three places, and in a row two of them are new in each turn.
 ghost use Rattle.std.specs.Prelude.{◌≡◌, ◌-◌, ◌*◌, ◌%◌, ◌^◌, ◌≤◌, min, length};
 ghost use Rattle.meaning.specs.Tables.{tabulate, at};
 ghost use Rattle.meaning.specs.Factorials.{twos_of};
@@ -63,6 +64,7 @@ impl Width {
         ensures { row.new ≡ tabulate (length row.old) (λ k. minus (2 ^ self.bits) (at row.old k) (q * at pivot.now k)) }
     {
         let mask = arith::bitmask(self.bits);
+        // by place, which the invariant speaks of: a zip with the pivot row names none
         for (k, number) in row.iter_mut().enumerate() {
             *number = self.less_multiple(*number, q, pivot[k], mask);
         }

@@ -11,7 +11,7 @@ use Rattle.meaning.specs.Calls.{same_list, reply, left}
 use Rattle.meaning.specs.Elimination.{State, system, eliminated, substituted, succeeds, solver_rows, solver_cause, solver_state, solver_succeeds, solver_number, solver_answer}
 use Rattle.meaning.specs.Fit.{value_of, fit_box_of, degree_used_of}
 use Rattle.theory.specs.Tables.{at-tabulate, tabulate_cong}
-use Rattle.std.specs.Prelude.{◌≡◌, refl, Bool, true, false, ◌&&◌, ◌||◌, cond, List, [], ◌∷◌, ℕ, suc, pred, ◌*◌, ◌%◌, ◌/◌, ◌<◌, ltb, eqb, length, ⊤, Result, Ok, Err}
+use Rattle.std.specs.Prelude.{◌≡◌, refl, Bool, true, false, ◌&&◌, ◌||◌, cond, List, [], ◌∷◌, ℕ, suc, pred, ◌*◌, ◌%◌, ◌/◌, ◌<◌, ltb, eqb, length, ⊤, Result, Ok, Err, IfErr}
 use Rattle.std.specs.Result.{is_ok}
 use Rattle.answers.specs.declared.Refusal.{Refusal}
 use Rattle.answers.specs.Said.{code, said_number}
@@ -106,6 +106,15 @@ module _ (w : ℕ) (mat rhs x : List ℕ) (f : Solvable w mat rhs x) where
       go : (b : Bool) → code refusal ≡ cond b 0 10 → b ≡ false
       go true p = absurd (suc-ne-zero (pred (code refusal)) (sym (code-suc refusal) ∙ p))
       go false p = refl
+
+  -- whose number is 10
+  pub refused_none : (answer : Result ⊤ Refusal) → said_number answer ≡ solver_number w (length x) mat rhs x → IfErr answer (λ r. code r ≡ 10)
+  refused_none (Ok _) e = tt
+  refused_none (Err r) e = go (succeeds w (length rhs) cols state) (e ∙ number_eq)
+    where
+      go : (b : Bool) → code r ≡ cond b 0 10 → code r ≡ 10
+      go true p = absurd (suc-ne-zero (pred (code r)) (sym (code-suc r) ∙ p))
+      go false p = p
 
   -- which of them, as the answer says
   pub concluded : (answer : Result ⊤ Refusal) → said_number answer ≡ solver_number w (length x) mat rhs x → (values : List ℕ)

@@ -8,7 +8,8 @@ ghost use Rattle.meaning.specs.Fit.{total, columns, fit_box_of, degree_used_of};
 
 use crate::fit::Given;
 
-// The twos in the factorials of the exponents.
+// The twos in the factorials of the exponents. This sum and the total degree below are `mono`'s too, of a key, which has twenty exponents by value; here
+// they are a slice of the columns' table, and the fit lies apart from `mono`.
 fn factorial_twos(exps: &[u8]) -> u32
     requires { length exps.now ≤ 20 }
     ensures { result ≡ weight exps.now }
@@ -34,7 +35,7 @@ impl Cell<'_> {
         ensures { result ≡ cell self.now.degrees.now self.now.exps.now }
     {
         let mut number = 0;
-        // a loop, and no fold: that the number stays below the cells is a fact of the turns
+        // a loop by index, and no fold over two lists: that the number is below the cells is a fact of the place of each turn
         for i in (0..self.degrees.len()).rev() {
             number = number * (self.degrees[i] as usize + 1) + self.exps[i] as usize;
         }
@@ -73,7 +74,8 @@ impl Cell<'_> {
 
 impl Given<'_> {
     // Fills the box with the coefficients: each column's value modulo its bound 2^(bitwidth - q) at the cell of its exponents, 0 elsewhere. `exponents` has
-    // the exponents of the columns, one column behind the other. The result is the largest total degree among the coefficients that are not 0.
+    // the exponents of the columns, one column behind the other: there is no heap for a list of lists. The result is the largest total degree among the
+    // coefficients that are not 0.
     pub(crate) fn fill_answer(&self, exponents: &[u8], values: &[u64], out: &mut [u64]) -> u64
         requires out_len { length out.old ≡ cells self.now.degrees.now }
         requires exponents_value { let g = self.now in
@@ -86,6 +88,7 @@ impl Given<'_> {
         let variables = self.degrees.len();
         let mut highest = 0;
         for (c, value) in values.iter().enumerate() {
+            // by place: of `chunks_exact` it would have to be shown anew, turn by turn, which part is lent
             let from = c * variables;
             let column = Cell {
                 degrees: self.degrees,

@@ -7,7 +7,7 @@ ghost use Rattle.weighted_poly_fit.specs.Listing.{listing, exponents_before, Lis
 
 // Writes the exponent lists with the sum `left` in the variables that remain, those of `degrees`, each behind the exponents that `current` has for the
 // variables before, from place `at` of the table on. The result is the place behind the last. `current` keeps the exponents of the variables before;
-// the others are used up.
+// the others are used up. It takes table and place, and not the part of the table that is left: the place behind the last list is what a caller goes on from.
 fn enumerate_basis_recurse(
     table: &mut [u8],
     at: usize,

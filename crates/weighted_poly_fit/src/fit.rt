@@ -14,7 +14,8 @@ use room::sizes::FitSettings;
 // What the parts of a fit are given, once its settings pass: the tables that are fitted to, with an entry for each of the `rows` grid points; the degrees of
 // the answer's box, all below `size`, and those of the grid, with two variables or more all below `side`; the highest sum of exponents, with the `cols`
 // columns that it leaves; and the width. The scratch tables and the output are lent beside it, each by itself: as fields of a struct each would need a clause,
-// in every contract that it passes, that it is the same reference still.
+// in every contract that it passes, that it is the same reference still. So their lengths are no fact of the struct, and the functions that fill the matrix
+// each ask that it has `cols` entries for each weight.
 #[derive(Drop)]
 pub(crate) struct Given<'a> {
     pub(crate) weights: &'a [u64],

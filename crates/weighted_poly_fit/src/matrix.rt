@@ -137,6 +137,7 @@ impl Given<'_> {
     {
         tables::clear(matrix);
         let variables = self.grid.len();
+        // by place: a column is told its place c, and of `chunks_exact` it would have to be shown anew, turn by turn, which part is lent
         for c in 0..self.cols {
             let from = c * variables;
             let column = Column {
@@ -177,6 +178,7 @@ impl Given<'_> {
     {
         let targets = self.targets;
         let mask = arith::bitmask(self.bitwidth);
+        // by place, which the invariant speaks of: a zip with the targets names none
         for (i, entry) in right.iter_mut().enumerate() {
             *entry = targets[i] & mask;
         }

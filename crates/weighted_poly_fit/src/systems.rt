@@ -1,35 +1,30 @@
 // The system of the fit: filled into the scratch tables, and solved.
-ghost use Rattle.std.specs.Prelude.{◌≡◌, ◌*◌, ◌≤◌, length};
-ghost use Rattle.meaning.specs.Tables.{tabulate};
+ghost use Rattle.std.specs.Prelude.{◌≡◌, ◌*◌, ◌≤◌, length, is_ok, IfErr};
 ghost use Rattle.meaning.specs.Boxes.{cells};
-ghost use Rattle.meaning.specs.Replies.{refused};
 ghost use Rattle.meaning.specs.Elimination.{joined, system, eliminated};
 ghost use Rattle.meaning.specs.Fit.{columns, fit_system};
 ghost use Rattle.two_adic_solver.specs.Solved.{Concluded};
 ghost use Rattle.weighted_poly_fit.specs.Fitting.{Solvable, Answered};
-ghost use Rattle.answers.specs.Said.{said};
+ghost use Rattle.answers.specs.Said.{said, code};
 
 use crate::columns;
 use crate::fit::Given;
 use answers::Refusal;
 
-// Solves the system of the matrix and the right side, which are used up, into `values`. The result says whether the elimination finds an answer.
-fn solve(matrix: &mut [u64], right: &mut [u64], values: &mut [u64], bitwidth: u32) -> bool
+// Solves the system of the matrix and the right side, which are used up, into `values`. Refused where the elimination finds no answer.
+fn solve(
+    matrix: &mut [u64],
+    right: &mut [u64],
+    values: &mut [u64],
+    bitwidth: u32,
+) -> Result<(), Refusal>
     requires { Solvable bitwidth matrix.old right.old values.old }
-    ensures { Concluded bitwidth (length right.old) (length values.old)
+    ensures refusal { IfErr result (λ refusal. code refusal ≡ 10) }
+    ensures concluded { Concluded bitwidth (length right.old) (length values.old)
         (eliminated bitwidth (length right.old) (length values.old)
-        (system bitwidth (length values.old) matrix.old right.old)) values.new result }
+        (system bitwidth (length values.old) matrix.old right.old)) values.new (is_ok result) }
 {
-    two_adic_solver::solver::solve_2adic(matrix, right, values.len(), bitwidth, values).is_ok()
-}
-
-// The refusal where the elimination finds no answer: the whole output is set to zero.
-fn no_answer(out: &mut [u64]) -> Result<u64, Refusal>
-    ensures says { said result ≡ refused 10 }
-    ensures leaves { out.new ≡ tabulate (length out.old) (λ n. 0) }
-{
-    tables::clear(out);
-    Err(Refusal::NoAnswer)
+    two_adic_solver::solver::solve_2adic(matrix, right, values.len(), bitwidth, values)
 }
 
 impl Given<'_> {
@@ -50,6 +45,7 @@ impl Given<'_> {
         ensures fills { let g = self.now in system g.bitwidth g.cols matrix.new right.new
             ≡ fit_system g.bitwidth g.grid.now (columns g.degrees.now g.most) g.weights.now g.targets.now }
     {
+        // There is no heap: an array with room for the most variables.
         let mut current = [0u8; 20];
         columns::enumerate_basis(
             exponents,
@@ -80,8 +76,9 @@ impl Given<'_> {
             (columns g.degrees.now g.most)
             (system g.bitwidth (length values.old) matrix.old right.old) out.new (said result) }
     {
-        if !solve(matrix, right, values, self.bitwidth) {
-            return no_answer(out);
+        if let Err(refusal) = solve(matrix, right, values, self.bitwidth) {
+            tables::clear(out);
+            return Err(refusal);
         }
         let degree = self.fill_answer(exponents, values, out);
         Ok(degree)

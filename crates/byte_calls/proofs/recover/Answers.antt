@@ -7,14 +7,14 @@ use Rattle.answers.specs.Laws.{handed_on}
 use Rattle.byte_calls.specs.Calls.{holds}
 use Rattle.byte_calls.specs.Bytes.{decoded, encoded}
 use Rattle.byte_calls.specs.Forms.{byte_degrees}
-use Rattle.byte_calls.specs.TableLaws.{Boxed, boxed, unboxed, recover_turned, recover_lengths, recover_done}
+use Rattle.byte_calls.specs.TableLaws.{Boxed, boxed, unboxed, recover_turned, recover_lengths, recover_done, length-zeros}
 use Rattle.byte_calls.proofs.CallLaws.{on_held}
 use Rattle.byte_calls.proofs.recover.Goals.{In_ok-cells, Else-not-holds-2, After-on-asked, then-not-holds-via-then-not-holds, then-not-holds-via-else-not-holds+then-not-holds-2}
 use Rattle.byte_calls.proofs.recover.Goals as goal
 
 -- the settings pass
-passed : (c : In_ok-cells) → Boxed true c.args.settings.now c.in_ok-cells.cells
-passed c = boxed true c.args.settings.now c.check.ensures.says c.in_ok-cells.was
+passed : (c : In_ok-cells) → Boxed true c.args.settings.now (byte_degrees c.args.settings.now) c.in_ok-cells.cells
+passed c = boxed true c.args.settings.now _ c.check.ensures.says c.in_ok-cells.was
 
 -- and each table has its bytes
 exact : (c : Else-not-holds-2) → (holds c.args.values.now c.in_ok-cells.cells ≡ true) × (holds c.args.out.now c.in_ok-cells.cells ≡ true)
@@ -31,7 +31,7 @@ number_on : (c : After-on-asked) → let k = c.args in
 number_on c v t =
     let s = c.args.settings.now in
     on_held (λ n w is ds. recovery_number n w is ds v t) s c.on-asked.ensures
-    (c.check.ensures.leaves (boxed true s c.check.ensures.says c.in_ok-cells.was).held)
+    (c.check.ensures.leaves (boxed true s (byte_degrees s) c.check.ensures.says c.in_ok-cells.was).held)
 
 left_on : (c : After-on-asked) → let k = c.args in
     (v t : List ℕ) → recovery_left c.on-asked.result.total c.on-asked.result.bitwidth c.on-asked.result.support.now (degrees_of c.on-asked.result) v t
@@ -39,13 +39,13 @@ left_on : (c : After-on-asked) → let k = c.args in
 left_on c v t =
     let s = c.args.settings.now in
     on_held (λ n w is ds. recovery_left n w is ds v t) s c.on-asked.ensures
-    (c.check.ensures.leaves (boxed true s c.check.ensures.says c.in_ok-cells.was).held)
+    (c.check.ensures.leaves (boxed true s (byte_degrees s) c.check.ensures.says c.in_ok-cells.was).held)
 
 pub returns-in_err-cells : goal.returns-in_err-cells
 returns-in_err-cells c =
     let k = c.args in
     let s = k.settings.now in
-    let x = recover_turned s k.values.now k.out.now _ (unboxed true s c.check.ensures.says c.in_err-cells.was) in
+    let x = recover_turned s (byte_degrees s) k.values.now k.out.now _ (unboxed true s (byte_degrees s) c.check.ensures.says c.in_err-cells.was) in
     rw (handed_on _ c.from_residual.ensures.1) (record { says = x.0; leaves = x.1.0; decides = x.1.1 })
 
 pub returns-then-not-holds : goal.returns-then-not-holds
@@ -58,7 +58,7 @@ returns-then-not-holds c =
       | then-not-holds-via-else-not-holds+then-not-holds-2 w ↦
           ap₂ ◌&&◌ (sym c.holds.ensures ∙ w.if-not-holds.false) (sym w.holds-else-not-holds.ensures ∙ w.if-not-holds-2.true)
     ] in
-    let x = recover_lengths s k.values.now k.out.now (passed (goal.at.returns-then-not-holds c).In_ok-cells) wrong in
+    let x = recover_lengths s (byte_degrees s) k.values.now k.out.now (passed (goal.at.returns-then-not-holds c).In_ok-cells) wrong in
     record { says = x.0; leaves = x.1.0; decides = x.1.1 }
 
 pub recover_in-requires-clause-tables : goal.recover_in-requires-clause-tables
@@ -75,7 +75,7 @@ returns-then-cells-le64 c =
     let k = c.args in
     let at = goal.at.returns-then-cells-le64 c in
     let e = exact at.Else-not-holds-2 in
-    let x = recover_done k.settings.now k.values.now k.out.now (passed at.In_ok-cells) e.0 e.1
+    let x = recover_done k.settings.now (byte_degrees k.settings.now) k.values.now k.out.now (passed at.In_ok-cells) e.0 e.1 _ (length-zeros _)
     (c.recover_in.ensures.says ∙ number_on at.After-on-asked _ _) (c.recover_in.ensures.leaves ∙ ap encoded (left_on at.After-on-asked _ _)) in
     record { says = x.0; leaves = x.1.0; decides = x.1.1 }
 
@@ -90,6 +90,6 @@ returns c =
     let k = c.args in
     let at = goal.at.returns c in
     let e = exact at.Else-not-holds-2 in
-    let x = recover_done k.settings.now k.values.now k.out.now (passed at.In_ok-cells) e.0 e.1
+    let x = recover_done k.settings.now (byte_degrees k.settings.now) k.values.now k.out.now (passed at.In_ok-cells) e.0 e.1 _ (length-zeros _)
     (c.recover_in-2.ensures.says ∙ number_on at.After-on-asked _ _) (c.recover_in-2.ensures.leaves ∙ ap encoded (left_on at.After-on-asked _ _)) in
     record { says = x.0; leaves = x.1.0; decides = x.1.1 }

@@ -14,8 +14,8 @@ use Rattle.byte_calls.proofs.value.Goals.{In_ok-cells, Else-not-holds-2, After-o
 use Rattle.byte_calls.proofs.value.Goals as goal
 
 -- the settings pass
-passed : (c : In_ok-cells) → Boxed false c.args.settings.now c.in_ok-cells.cells
-passed c = boxed false c.args.settings.now c.check.ensures.says c.in_ok-cells.was
+passed : (c : In_ok-cells) → Boxed false c.args.settings.now (byte_degrees c.args.settings.now) c.in_ok-cells.cells
+passed c = boxed false c.args.settings.now _ c.check.ensures.says c.in_ok-cells.was
 
 -- and each table has its bytes
 exact : (c : Else-not-holds-2) → (holds c.args.coeffs.now c.in_ok-cells.cells ≡ true) × (holds c.args.point.now c.args.settings.now.count ≡ true)
@@ -28,12 +28,12 @@ reply_on : (c : After-on-asked) → let k = c.args in
 reply_on c v t =
     let s = c.args.settings.now in
     on_held (λ n w is ds. value_reply n w is ds v t) s c.on-asked.ensures
-    (c.check.ensures.leaves (boxed false s c.check.ensures.says c.in_ok-cells.was).held)
+    (c.check.ensures.leaves (boxed false s (byte_degrees s) c.check.ensures.says c.in_ok-cells.was).held)
 
 known : (c : After-on-asked) → length c.on-asked.result.support.now ≡ c.args.settings.now.count
 known c =
     let s = c.args.settings.now in
-    let h = (boxed false s c.check.ensures.says c.in_ok-cells.was).held in
+    let h = (boxed false s (byte_degrees s) c.check.ensures.says c.in_ok-cells.was).held in
     on_held (λ n w is ds. length is) s c.on-asked.ensures (c.check.ensures.leaves h) ∙ length-decoded s.support.now s.count h.bytes
 
 tables : (c : Else-not-holds-2) → let k = c.args in
@@ -44,7 +44,7 @@ pub returns-in_err-cells : goal.returns-in_err-cells
 returns-in_err-cells c =
     let k = c.args in
     let s = k.settings.now in
-    let x = value_turned s k.coeffs.now k.point.now _ (unboxed false s c.check.ensures.says c.in_err-cells.was) in
+    let x = value_turned s (byte_degrees s) k.coeffs.now k.point.now _ (unboxed false s (byte_degrees s) c.check.ensures.says c.in_err-cells.was) in
     rw (handed_on _ c.from_residual.ensures.1) (record { says = x.0; values = x.1 })
 
 pub returns-then-not-holds : goal.returns-then-not-holds
@@ -57,7 +57,7 @@ returns-then-not-holds c =
       | then-not-holds-via-else-not-holds+then-not-holds-2 w ↦
           ap₂ ◌&&◌ (sym c.holds.ensures ∙ w.if-not-holds.false) (sym w.holds-else-not-holds.ensures ∙ w.if-not-holds-2.true)
     ] in
-    let x = value-lengths s k.coeffs.now k.point.now (passed (goal.at.returns-then-not-holds c).In_ok-cells) wrong in
+    let x = value-lengths s (byte_degrees s) k.coeffs.now k.point.now (passed (goal.at.returns-then-not-holds c).In_ok-cells) wrong in
     record { says = x.0; values = x.1 }
 
 pub value_in-requires-clause-tables : goal.value_in-requires-clause-tables
@@ -78,7 +78,8 @@ returns-then-cells-le64 c =
     let k = c.args in
     let at = goal.at.returns-then-cells-le64 c in
     let e = exact at.Else-not-holds-2 in
-    let x = value_done k.settings.now k.coeffs.now k.point.now (passed at.In_ok-cells) e.0 e.1 (c.value_in.ensures ∙ reply_on at.After-on-asked _ _) in
+    let x = value_done k.settings.now (byte_degrees k.settings.now) k.coeffs.now k.point.now (passed at.In_ok-cells) e.0 e.1
+    (c.value_in.ensures ∙ reply_on at.After-on-asked _ _) in
     record { says = x.0; values = x.1 }
 
 pub value_in-requires-2-clause-tables : goal.value_in-requires-2-clause-tables
@@ -96,5 +97,6 @@ returns c =
     let k = c.args in
     let at = goal.at.returns c in
     let e = exact at.Else-not-holds-2 in
-    let x = value_done k.settings.now k.coeffs.now k.point.now (passed at.In_ok-cells) e.0 e.1 (c.value_in-2.ensures ∙ reply_on at.After-on-asked _ _) in
+    let x = value_done k.settings.now (byte_degrees k.settings.now) k.coeffs.now k.point.now (passed at.In_ok-cells) e.0 e.1
+    (c.value_in-2.ensures ∙ reply_on at.After-on-asked _ _) in
     record { says = x.0; values = x.1 }

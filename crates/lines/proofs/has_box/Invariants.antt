@@ -1,5 +1,4 @@
--- The loop: `size` is the number of cells of the variables before variable i, and below 2^60. A product that is not
--- taken is 2^60 or more, as no table's length is.
+-- The loop: `size` is the number of cells of the variables before variable i, and below 2^60. A product that overflows is more than any table's length.
 use Rattle.lines.proofs.BoxSizes.{Counted}
 use Rattle.lines.proofs.has_box.Given as goal
 

@@ -75,19 +75,10 @@ invariant_of-checked2 c =
     let k = goal.at.invariant_of-checked2 c in
     record { boxed = boxed g.settings g.coeffs.now (second k.In_ok-check_form-2) (degrees2 k.After-as_slice-2) }
 
-pub same_boxes-requires-clause-few : goal.same_boxes-requires-clause-few
-same_boxes-requires-clause-few c =
+pub same_boxes-requires : goal.same_boxes-requires
+same_boxes-requires c =
     let f = c.args.form1.now in
-    width f.settings f.coeffs.now (first (goal.at.same_boxes-requires-clause-few c).In_ok-check_form)
-
-pub same_boxes-requires-clause-places : goal.same_boxes-requires-clause-places
-same_boxes-requires-clause-places c =
-    let f = c.args.form1.now in
-    let g = c.args.form2.now in
-    let k = goal.at.same_boxes-requires-clause-places c in (
-      places f.settings f.coeffs.now (first k.In_ok-check_form),
-      rw c.if-form1-form2.false (places g.settings g.coeffs.now (second k.In_ok-check_form-2)),
-    )
+    width f.settings f.coeffs.now (first (goal.at.same_boxes-requires c).In_ok-check_form)
 
 pub returns : goal.returns
 returns c =
@@ -96,7 +87,9 @@ returns c =
     let k = goal.at.returns c in
     let totals = c.if-form1-form2.false in
     let widths = c.if-form1-form2-2.false in
-    let answer = c.same_boxes.ensures
+    let one = places f.settings f.coeffs.now (first k.In_ok-check_form) in
+    let other = places g.settings g.coeffs.now (second k.In_ok-check_form-2) in
+    let answer = c.same_boxes.ensures f.settings.total one (rw totals other)
     ∙ as_forms f.settings.total f.settings.bitwidth f.settings.support.now f.coeffs.now g.settings.support.now g.coeffs.now totals widths
     (degrees1 k.After-as_slice) (degrees2 k.After-as_slice-2) in
     let x = both_decide (form_lent f) (form_lent g) (cube_each f.settings) (cube_each g.settings) (first k.In_ok-check_form) (second k.In_ok-check_form-2)

@@ -2,7 +2,7 @@
 use Rattle.std.proofs.Common.{sym, ◌∙◌, ap}
 use Rattle.singleton_power_recovery.specs.VariableLines.{single_accepted, single_refused}
 use Rattle.answers.specs.Said.{said_number}
-use Rattle.answers.specs.Laws.{handed_on}
+use Rattle.answers.specs.Laws.{code-suc, handed_on}
 use Rattle.singleton_power_recovery.proofs.recover_line.Goals as goal
 
 pub returns-in_err-recover_multivar_poly : goal.returns-in_err-recover_multivar_poly
@@ -12,7 +12,7 @@ returns-in_err-recover_multivar_poly c =
     let out = c.recover_multivar_poly.new.out in
     let handed = ap said_number (handed_on _ c.from_residual.ensures.1) in
     rw handed
-    (single_refused a.bitwidth a.values.now a.out.now p.0 p.1 p.2 p.3 _
+    (single_refused a.bitwidth a.values.now a.out.now p.0 p.1 p.2 p.3 (code-suc _)
     (sym (ap said_number c.in_err-recover_multivar_poly.was) ∙ c.recover_multivar_poly.ensures.says))
 
 pub returns : goal.returns

@@ -3,7 +3,7 @@ use Rattle.std.proofs.Common.{◌≡◌, ℕ, ◌+◌, ◌-◌, ◌*◌, ◌≤�
 use Rattle.std.proofs.Common.{add-mul}
 use Rattle.theory.specs.Parts.{part, put}
 use Rattle.answers.specs.Said.{code, said_number}
-use Rattle.answers.specs.Laws.{handed_on}
+use Rattle.answers.specs.Laws.{code-suc, handed_on}
 use Rattle.singleton_power_recovery.specs.VariableLines.{Single, Lines, lines_step, lines_fail, lines-done}
 use Rattle.singleton_power_recovery.proofs.Chunks.{chunk_fits, chunk_part, chunk_rest}
 use Rattle.singleton_power_recovery.proofs.recover_lines.Goals as goal
@@ -62,7 +62,7 @@ returns-in_err-recover_line c n whole =
     let ys = c.recover_line.new.out in
     let r = c.in_err-recover_line.field-0.0 in
     rw (ap said_number (handed_on _ c.from_residual.ensures.1))
-    (lines_fail a.bitwidth a.size a.values.now a.out.now c.loop-i.out (c.in-Some.i * a.size) (so_far k) (omega arith) (fits k) ys {n = n} whole r
+    (lines_fail a.bitwidth a.size a.values.now a.out.now c.loop-i.out (c.in-Some.i * a.size) (so_far k) (omega arith) (fits k) ys {n = n} whole (code-suc r)
     (single k ys (code r) c.in_err-recover_line.ensures))
 
 pub returns : goal.returns

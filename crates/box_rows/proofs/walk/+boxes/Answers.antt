@@ -7,7 +7,7 @@ use Rattle.box_rows.proofs.Turns.{walked_cong, turns_start, turns_inside, turns_
 use Rattle.box_rows.proofs.walk.+boxes.Goals as goal
 
 pub returns-then-part-eq0 : goal.returns-then-part-eq0
-returns-then-part-eq0 g t c = walked_cong _ _ refl (λ i h. no_bits _ _ c.if-part-eq0.true) c.none.ensures
+returns-then-part-eq0 g t c = walked_cong _ _ refl (λ i h. no_bits _ _ _ c.if-part-eq0.true) c.line.ensures
 
 pub loop-e-init : goal.loop-e-init
 loop-e-init g t c =

@@ -4,7 +4,7 @@ use Rattle.meaning.specs.Settings.{byte_limit}
 use Rattle.answers.specs.Laws.{handed_on}
 use Rattle.byte_calls.specs.Bytes.{decoded}
 use Rattle.byte_calls.specs.Calls.{holds}
-use Rattle.byte_calls.specs.Forms.{byte_grid}
+use Rattle.byte_calls.specs.Forms.{byte_grid, byte_degrees}
 use Rattle.byte_calls.specs.TableLaws.{Boxed}
 use Rattle.byte_calls.proofs.ByteFits.{Counted, grid_boxed, grid_held, grid_unboxed, fit_turned, fit_wide, fit_large_lem, counted, fit_fits, fit_uneven, fit_done}
 use Rattle.byte_calls.proofs.fit.fit.Goals.{In_ok-check, After-count_cells-cells}
@@ -13,7 +13,7 @@ use Rattle.byte_calls.proofs.fit.fit.Goals.{then-not-holds-via-else-not-holds+el
 use Rattle.byte_calls.proofs.fit.fit.Goals as goal
 
 -- the settings of the grid pass
-passed : (c : In_ok-check) → Boxed false (byte_grid c.args.settings.now) c.in_ok-check.field-0
+passed : (c : In_ok-check) → Boxed false (byte_grid c.args.settings.now) (byte_degrees (byte_grid c.args.settings.now)) c.in_ok-check.field-0
 passed c = grid_boxed c.args.settings.now c.grid.ensures c.check.ensures.says c.in_ok-check.was
 
 -- so that the places begin with its indices

@@ -3,4 +3,4 @@ use Rattle.two_adic_solver.proofs.FixedLaws.{RowLess}
 use Rattle.two_adic_solver.proofs.square.subtract_row.Given as goal
 
 abbrev pub invariant-loop-k : goal.invariant-loop-k
-invariant-loop-k l = RowLess l.width.bits l.q l.source l.target l.column l.initial.matrix l.matrix l.k
+invariant-loop-k l = RowLess l.pivot.width.bits l.q l.pivot.row l.target l.pivot.column l.initial.matrix l.matrix l.k

@@ -1,7 +1,0 @@
--- The loop: the first i cells are done.
-use Rattle.std.proofs.Common.{◌^◌, ◌==◌}
-use Rattle.box_rows.specs.Jobs.{Walked}
-use Rattle.box_rows.proofs.walk.none.Given as goal
-
-abbrev pub invariant-loop-i : goal.invariant-loop-i
-invariant-loop-i g l = let j = g.J.Job in Walked (j.left l.job) (j.passes l.job) (λ n. 2 ^ 0) l.from l.i l.initial.table l.table (l.found == 0)
