@@ -17,7 +17,7 @@ pub(crate) fn convert_box<T: LineTransform>(
     requires { (bitwidth ≤ 64) × (length coefficients.now ≡ cells degrees.now) × (length out.old ≡ cells degrees.now) }
     ensures { out.new ≡ box_of (T.line transform) (2 ^ bitwidth) degrees.now coefficients.now }
 {
-    out.copy_from_slice(coefficients);
+    tables::copy(coefficients, out);
     lines::transform_all(transform, out, degrees);
     if bitwidth < 64 {
         tables::cut(out, bitwidth);

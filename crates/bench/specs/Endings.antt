@@ -1,5 +1,5 @@
 -- What becomes of an input.
-use Rattle.std.specs.Prelude.{◌≡◌, ℕ, ◌≤◌, List, ◌++◌, length, IfSome, Result, Ok, Err}
+use Rattle.std.specs.Prelude.{◌≡◌, ⊤, ℕ, ◌≤◌, List, ◌++◌, length, IfSome, Result, Ok, Err}
 use Rattle.std.specs.declared.option.Option.{Option}
 use Rattle.std.specs.Io.KnownBytes.{Appends}
 use Rattle.std.proofs.lemmas.List.Edits.{sets}
@@ -40,6 +40,11 @@ IsDecided r left = (left ≡ 0) × (r.stage ≡ Stage.IllHead)
 abbrev pub size_of : Ending → ℕ
 size_of (Ending.Whole n) = n
 size_of (Ending.IllHead n) = n
+
+-- an ending at the end of the source says so of that source; the other says nothing of it
+abbrev pub Ended : Ending → Type 0 → Type 0
+Ended (Ending.Whole n) source_ends = source_ends
+Ended (Ending.IllHead n) source_ends = ⊤
 
 -- what is written for an input, by how it ended, or nothing where it could not be read
 abbrev pub Answered : Result Ending Failure → List ℕ → List ℕ → Type 0

@@ -8,7 +8,7 @@ ghost use Rattle.std.specs.IoError.{error_kind};
 ghost use Rattle.std.specs.declared.io.ErrorKind.{ErrorKind};
 ghost use Rattle.bench.specs.declared.Failure.{Failure};
 ghost use Rattle.bench.specs.Answers.{LedFrom};
-ghost use Rattle.bench.specs.Endings.{IsDecided, size_of, Answered, SourceText, Printed};
+ghost use Rattle.bench.specs.Endings.{IsDecided, size_of, Ended, Answered, SourceText, Printed};
 
 mod answer;
 
@@ -125,6 +125,7 @@ impl Ending {
 fn answer_input<R: Read>(source: &mut R, out: &mut [u8]) -> Result<Ending, Failure>
     requires { length out.old ≡ LONGEST_TEXT }
     ensures answered { Answered result out.old out.new }
+    ensures ends { IfOk result (λ e. Ended e (IsAtEnd (R.remaining source.new))) }
     ensures of_source { IfOk result (λ e. SourceText (R.remaining source.old) (size_of e) out.old out.new) }
 {
     let mut values = answer::cell_room();

@@ -1,29 +1,73 @@
-// The outcome of the answer, and the settings as the reader hands them over.
-ghost use Rattle.std.specs.Prelude.{◌≡◌};
-ghost use Rattle.answers.specs.Said.{said_number};
+// What the answer says, and the settings as the reader hands them over.
+ghost use Rattle.std.specs.Prelude.{◌≡◌, ℕ, ◌==◌};
+ghost use Rattle.answers.specs.Said.{code, said_number};
 ghost use Rattle.bench_file.specs.Verdict.{verdict, narrowed, lowered};
 
 use crate::reader::IllFormed;
 use answers::Refusal;
 
-// The outcome of the answer. `settings` says whether anything is wrong with the settings; `exact` says that there are as many values as the box has cells;
+// What says whether anything is wrong, with the number of it: 0 where nothing is.
+pub trait Numbered: Copy {
+    // the number that it says
+    ghost number: { Self → ℕ };
+
+    // What a refusal says.
+    fn refused(refusal: Refusal) -> Self
+        ensures { number result ≡ code refusal };
+
+    // Whether nothing is wrong.
+    fn passes(self) -> bool
+        ensures { result ≡ (number self == 0) };
+}
+
+// What a call says.
+impl Numbered for Result<(), Refusal> {
+    ghost number = { λ outcome. said_number outcome };
+
+    fn refused(refusal: Refusal) -> Self {
+        Err(refusal)
+    }
+
+    fn passes(self) -> bool {
+        self.is_ok()
+    }
+}
+
+// Any number, also one that no refusal has.
+impl Numbered for u32 {
+    ghost number = { λ n. n };
+
+    fn refused(refusal: Refusal) -> Self {
+        u32::from(refusal)
+    }
+
+    fn passes(self) -> bool {
+        self == 0
+    }
+}
+
+// What the answer says. `settings` says whether anything is wrong with the settings; `exact` says that there are as many values as the box has cells;
 // `recovered` is what recovery says. An input whose first two lines are ill-formed is 12; then come the settings, then 12 for ill-formed values, then 9 for
 // a wrong count. `exact` is a bool, since the definition `verdict` takes this test as a Bool.
-pub fn verdict_of(
+pub fn verdict_of<N: Numbered>(
     reading: Result<(), IllFormed>,
-    settings: Result<(), Refusal>,
+    settings: N,
     exact: bool,
-    recovered: Result<(), Refusal>,
-) -> Result<(), Refusal>
-    ensures { said_number result ≡ verdict reading (said_number settings) exact (said_number recovered) }
+    recovered: N,
+) -> N
+    ensures { N.number result ≡ verdict reading (N.number settings) exact (N.number recovered) }
 {
     if let Err(IllFormed::Head) = reading {
-        return Err(Refusal::IllFormed);
+        return N::refused(Refusal::IllFormed);
     }
-    settings?;
-    reading?;
+    if !settings.passes() {
+        return settings;
+    }
+    if reading.is_err() {
+        return N::refused(Refusal::IllFormed);
+    }
     if !exact {
-        return Err(Refusal::WrongLength);
+        return N::refused(Refusal::WrongLength);
     }
     recovered
 }

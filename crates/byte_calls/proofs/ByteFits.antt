@@ -6,18 +6,17 @@ use Rattle.meaning.specs.Boxes.{cells}
 use Rattle.meaning.specs.Replies.{Reply, refused}
 use Rattle.meaning.specs.Settings.{byte_limit, cube, first}
 use Rattle.meaning.specs.Calls.{reply, left}
-use Rattle.meaning.specs.Fit.{Fit, fit_of, fit_rows, fit_columns_of, fit_cause, fit_number, fit_reply, fit_out, fit_state, fit_succeeds, fit_answer, degree_used_of}
-use Rattle.meaning.specs.Counts.{fit_room_lem}
+use Rattle.meaning.specs.Fit.{Fit, fit_of, fit_rows, fit_columns_of, fit_settings_number, fit_cause, fit_number, fit_reply, fit_out, fit_state, fit_succeeds, fit_answer, degree_used_of}
 use Rattle.theory.specs.FitSizes.{cells-cube-le, columns_pos}
 use Rattle.answers.specs.declared.Refusal.{Refusal}
 use Rattle.answers.specs.Said.{code, said}
-use Rattle.answers.specs.Laws.{code-suc, reply-code, first_code, left-code}
+use Rattle.answers.specs.Laws.{code-suc, number-accepted, value-accepted, number-refused, reply-code, first_code, left-code}
 use Rattle.settings.specs.declared.Settings.{Settings}
 use Rattle.settings.specs.Forms.{degrees_of}
 use Rattle.room.specs.declared.sizes.FitRoom.{FitRoom}
 use Rattle.room.specs.declared.sizes.FitSettings.{FitSettings}
-use Rattle.room.specs.Sizes.{fit_settings, fit_asked, answer_of, fit_room_said}
-use Rattle.room.specs.SizeLaws.{told_turned, told_counts}
+use Rattle.room.specs.Sizes.{fit_settings, fit_asked, answer_of, columns_reply}
+use Rattle.room.specs.SizeLaws.{size_parts}
 use Rattle.weighted_poly_fit.specs.Fits.{Fits}
 use Rattle.demand3.specs.Also.{also₂}
 use Rattle.byte_calls.specs.declared.checks.ByteSettings.{ByteSettings}
@@ -112,10 +111,10 @@ module _ (s : ByteFitSettings) (weights targets out : List ℕ) where
 
     -- the settings on the indices that the support's bytes hold
     module _ {on : FitSettings} {indices : Bor (List ℕ)} (is : on ≡ fit_settings_on s indices) (held : indices.now ≡ decoded s.support.now) where
-      sized : fit_room_lem (fit_asked on) ≡ fit_room_lem sizes_asked
+      sized : columns_reply (fit_asked on) ≡ columns_reply sizes_asked
       sized =
-          ap (λ (o : FitSettings). fit_room_lem (fit_asked o)) is
-          ∙ ap (λ (t : List ℕ). fit_room_lem (fit_settings s.total s.bitwidth t s.max_degree s.grid_degree)) held
+          ap (λ (o : FitSettings). columns_reply (fit_asked o)) is
+          ∙ ap (λ (t : List ℕ). columns_reply (fit_settings s.total s.bitwidth t s.max_degree s.grid_degree)) held
 
       -- the degrees of the answer's box
       degrees_held : {a : Settings} {ds : List ℕ} → a ≡ answer_of on → (length a.support.now ≤ 20 → ds ≡ degrees_of a) → ds ≡ asked.degrees
@@ -124,8 +123,8 @@ module _ (s : ByteFitSettings) (weights targets out : List ℕ) where
           let lent = subst (λ (a : Settings). length a.support.now ≤ 20 → ds ≡ degrees_of a) (e ∙ ap answer_of is) all in
           lent (le_trans (le_of_eq (ap length held)) few) ∙ ap box held
 
-      -- the sizes as the room of the fit says them
-      module _ {answer : Result FitRoom Refusal} (says : fit_room_said answer ≡ fit_room_lem (fit_asked on)) where
+      -- the columns as the fit counts them from the settings alone
+      module _ {answer : Result ℕ Refusal} (says : said answer ≡ columns_reply (fit_asked on)) where
         -- it says 8 where the matrix has more than 65,536 entries
         pub fit_wide : {r : Refusal} → answer ≡ Err r → Said (refused (code r)) out
         fit_wide {r} e = by_cases (ltb 65536 entries) refl
@@ -133,7 +132,7 @@ module _ (s : ByteFitSettings) (weights targets out : List ℕ) where
             told : cond (ltb 65536 entries) 8 0 ≡ code r
             told =
                 sym (ap (λ (n : ℕ). first n (cond (ltb 65536 entries) 8 0)) b.settles.passes)
-                ∙ told_turned sizes_asked r (sym (ap fit_room_said e) ∙ says ∙ sized)
+                ∙ number-refused r (fit_settings_number sizes_asked) (length (fit_columns_of asked)) (sym (ap said e) ∙ says ∙ sized)
 
             by_cases : (x : Bool) → ltb 65536 entries ≡ x → Said (refused (code r)) out
             by_cases true q =
@@ -141,35 +140,41 @@ module _ (s : ByteFitSettings) (weights targets out : List ℕ) where
                 turned r (cause true (lt-ltb byte_limit entries large) lengths refl ∙ sym (ap (λ (x : Bool). cond x 8 0) q) ∙ told)
             by_cases false q = absurd (suc-ne-zero (pred (code r)) (sym (code-suc r) ∙ sym told ∙ ap (λ (x : Bool). cond x 8 0) q))
 
-        -- and the rows and entries else
-        fit_sized : {needs : FitRoom} → answer ≡ Ok needs → (needs.rows ≡ fit_rows asked) × (needs.entries ≡ entries)
-        fit_sized e =
-            let told = told_counts sizes_asked (sym (ap fit_room_said e) ∙ says ∙ sized) in
-            (told.row_count, told.entry_count)
+        -- and counts them else
+        pub fit_sized_lem : {columns : ℕ} → answer ≡ Ok columns → (columns ≡ length (fit_columns_of asked)) × (rows * columns ≤ 65536)
+        fit_sized_lem e =
+            let told = sym (ap said e) ∙ says ∙ sized in
+            let number = fit_settings_number sizes_asked in
+            let counted = value-accepted number (length (fit_columns_of asked)) told in (
+              counted,
+              rw (ap₂ ◌*◌ b.settles.counted counted) (size_parts sizes_asked (number-accepted number (length (fit_columns_of asked)) told)).1,
+            )
+
+        entry_count : {columns : ℕ} → answer ≡ Ok columns → rows * columns ≡ entries
+        entry_count e = ap₂ ◌*◌ b.settles.counted (fit_sized_lem e).0
 
         -- a matrix that is too large
-        pub fit_large_lem : {needs : FitRoom} → answer ≡ Ok needs → byte_limit < needs.entries → Said (refused 8) out
-        fit_large_lem e h = turned Refusal.TooLarge (cause true (lt-ltb byte_limit entries (omega (arith, h, (fit_sized e).1))) lengths refl)
+        pub fit_large_lem : {columns : ℕ} → answer ≡ Ok columns → byte_limit < rows * columns → Said (refused 8) out
+        fit_large_lem e h = turned Refusal.TooLarge (cause true (lt-ltb byte_limit entries (le_trans h (le_of_eq (entry_count e)))) lengths refl)
 
-        pub counted : {needs : FitRoom} → answer ≡ Ok needs → needs.entries ≤ byte_limit → {a : Settings} {ds ls : List ℕ} {count : ℕ}
+        pub counted : {columns : ℕ} → answer ≡ Ok columns → rows * columns ≤ byte_limit → {a : Settings} {ds ls : List ℕ} {count : ℕ}
             → a ≡ answer_of on → (length a.support.now ≤ 20 → ds ≡ degrees_of a) → ls ≡ ds → count ≡ min (cells ls) (byte_limit + 1)
-            → Counted on needs count
-        counted {needs} e small {count = count} is_answer all same counts =
-            let sizes = fit_sized e in
+            → Counted on (record { rows = rows; columns = columns; entries = rows * columns }) count
+        counted {columns} e small {count = count} is_answer all same counts =
             let box = same ∙ degrees_held is_answer all in
             record {
               points = rows;
               boxed = b;
-              row_count = sizes.0;
-              entry_count = sizes.1;
+              row_count = b.settles.counted;
+              entry_count = entry_count e;
               cell_count =
                   counts ∙ ap (λ (l : List ℕ). min (cells l) (byte_limit + 1)) box
-                  ∙ min-eq_left (omega (arith, box_le_rows, rows_le, sizes.1, small));
+                  ∙ min-eq_left (omega (arith, box_le_rows, rows_le, entry_count e, small));
               small = small;
               lent =
-                  ap (λ (o : FitSettings). fit_lent o weights targets needs.entries needs.rows count) is
-                  ∙ ap (λ (t : List ℕ). fit_of s.total s.bitwidth t s.max_degree s.grid_degree (decoded weights) (decoded targets) (zeros needs.entries)
-                  (zeros needs.rows) (zeros count)) held;
+                  ap (λ (o : FitSettings). fit_lent o weights targets (rows * columns) rows count) is
+                  ∙ ap (λ (t : List ℕ). fit_of s.total s.bitwidth t s.max_degree s.grid_degree (decoded weights) (decoded targets) (zeros (rows * columns))
+                  (zeros rows) (zeros count)) held;
             }
 
   module _ {on : FitSettings} {needs : FitRoom} {count : ℕ} (n : Counted on needs count) where

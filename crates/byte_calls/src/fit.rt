@@ -12,7 +12,7 @@ use crate::codec::{self, MOST};
 use crate::rooms;
 use answers::Refusal;
 use room::sizes;
-use room::sizes::FitSettings;
+use room::sizes::{FitRoom, FitSettings};
 
 // The settings of a fit on bytes: the support, of `count` indices, the number of variables in all, the width, the highest sum of exponents, and the degree of
 // the grid, which every support variable has. Not `FitSettings`, since the support crosses as bytes, with its count beside them. The two
@@ -75,9 +75,14 @@ pub fn fit(
         (said result).number (said result).value (decoded out.new) }
 {
     let mut places = [0u64; 20];
-    settings.grid().check(false, &mut places)?;
+    let rows = settings.grid().check(false, &mut places)?;
     let asked = settings.on(&places[..settings.count as usize]);
-    let needs = sizes::fit_room(&asked)?;
+    let columns = sizes::fit_columns(&asked)?;
+    let needs = FitRoom {
+        rows,
+        columns,
+        entries: rows * columns,
+    };
     if (settings::BYTE_LIMIT as u64) < needs.entries {
         return Err(Refusal::TooLarge);
     }

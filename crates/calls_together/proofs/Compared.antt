@@ -74,16 +74,20 @@ recoveries_follow each each' call call' c p agrees agrees' zero zero' =
 
 -- ---- several comparisons
 
--- a lent form has a degree for each variable
-each : (f : Lent) → length (form_lent f).degrees ≡ length (form_lent f).support
+-- forms with a degree for each variable
+abbrev Each : Form → Type 0
+Each f = length f.degrees ≡ length f.support
+
+-- as a lent form has
+pub each : (f : Lent) → Each (form_lent f)
 each f = length-replicate (length f.settings.support.now) f.settings.max_degree
 
-pub orders_follow : (a c b d : Lent) {one other : Reply} → Compared (form_lent a) (form_lent b) one → Compared (form_lent c) (form_lent d) other
-    → Relaid (form_lent a) (form_lent c) → Relaid (form_lent b) (form_lent d) → one.number ≡ 0 → other.number ≡ 0 → one ≡ other
+pub orders_follow : {f f' g g' : Form} → Each f → Each f' → Each g → Each g' → {one other : Reply} → Compared f g one → Compared f' g' other
+    → Relaid f f' → Relaid g g' → one.number ≡ 0 → other.number ≡ 0 → one ≡ other
 orders_follow a c b d x y r s z u =
     let p = x.accepted.0 z in
     let q = y.accepted.0 u in
-    let i = same_any_order_lem (placed p.0 (each a)) (placed q.0 (each c)) (placed p.1 (each b)) (placed q.1 (each d)) r s in
+    let i = same_any_order_lem (placed p.0 a) (placed q.0 c) (placed p.1 b) (placed q.1 d) r s in
     same_replies x.either y.either z u (λ v. (y.yes u).1 (i.0 ((x.yes z).0 v))) (λ v. (x.yes z).1 (i.1 ((y.yes u).0 v)))
 
 pub handed_on : {f g h : Form} {first second whole : Reply} → Compared f g first → Compared g h second → Compared f h whole

@@ -1,7 +1,6 @@
 -- What follows from moves beside other calls: an accepted one leaves the moved form, of which the laws speak.
 use Rattle.std.proofs.Common.{◌≡◌, sym, ap, ap₂, ◌∙◌, Bool, true, false, cond, ℕ, ◌+◌, ◌%◌, ◌^◌, ◌<◌, List, [], ◌∷◌, map, ℤ, pos, length}
 use Rattle.std.proofs.Math.Nat.{zero-mod}
-use Rattle.std.proofs.lemmas.List.{length-replicate}
 use Rattle.meaning.specs.Tables.{at}
 use Rattle.meaning.specs.Boxes.{cells, digits}
 use Rattle.meaning.specs.Values.{Agrees, bound, box_total, box_reduced}
@@ -10,8 +9,6 @@ use Rattle.meaning.specs.Datum.{moved_pointℤ, moved}
 use Rattle.meaning.specs.Polynomials.{Term}
 use Rattle.meaning.specs.Settings.{fits_width, first}
 use Rattle.meaning.specs.Calls.{left, in_out_number, sum_number, sum_left, reduce_number, reduce_left, move_number, move_left, recovery_number}
-use Rattle.settings.specs.declared.Settings.{Settings}
-use Rattle.settings.specs.Forms.{degrees_of}
 use Rattle.theory.specs.Every.{true-iff}
 use Rattle.theory.specs.DemandThree.{accepts_of_agrees}
 use Rattle.theory.specs.Moved.{moved-moved, moved-zero, moved-box_total}
@@ -24,25 +21,19 @@ use Rattle.demand3.proofs.BoxCalls.{after_move}
 use Rattle.calls_together.proofs.Together.{Recovers, passed, passes_with}
 
 -- calls under the same settings, with their numbers and what they leave
-module _ (s : Settings) where
-  abbrev w : ℕ
-  w = s.bitwidth
-
-  abbrev ds : List ℕ
-  ds = degrees_of s
-
+module _ (total w : ℕ) (support ds : List ℕ) where
   abbrev Moves : List ℕ → List ℕ → List ℕ → ℕ → List ℕ → Type 0
-  Moves c os out n after = (n ≡ move_number s.total w s.support.now ds c os out) × (after ≡ move_left s.total w s.support.now ds c os out)
+  Moves c os out n after = (n ≡ move_number total w support ds c os out) × (after ≡ move_left total w support ds c os out)
 
   abbrev Sums : List ℕ → List ℕ → List ℕ → ℕ → List ℕ → Type 0
-  Sums a b out n after = (n ≡ sum_number s.total w s.support.now ds a b out) × (after ≡ sum_left s.total w s.support.now ds a b out)
+  Sums a b out n after = (n ≡ sum_number total w support ds a b out) × (after ≡ sum_left total w support ds a b out)
 
   abbrev Reduces : List ℕ → ℕ → List ℕ → Type 0
-  Reduces c n after = (n ≡ reduce_number s.total w s.support.now ds c) × (after ≡ reduce_left s.total w s.support.now ds c)
+  Reduces c n after = (n ≡ reduce_number total w support ds c) × (after ≡ reduce_left total w support ds c)
 
   -- what those leave that are accepted
   moved_to : (c os out : List ℕ) {n : ℕ} {after : List ℕ} → Moves c os out n after → n ≡ 0 → after ≡ moved w ds c os
-  moved_to c os out m z = after_move s.total w s.support.now ds c os out m.0 m.1 z
+  moved_to c os out m z = after_move total w support ds c os out m.0 m.1 z
 
   summed : (a b out : List ℕ) {n : ℕ} {after : List ℕ} → Sums a b out n after → n ≡ 0 → after ≡ box_total (bound w) ds a b
   unfolding sum_left
@@ -52,27 +43,23 @@ module _ (s : Settings) where
   unfolding reduce_left
   reduced c m z = m.1 ∙ ap (λ (k : ℕ). left k (box_reduced (bound w) ds c) c) (sym m.0 ∙ z)
 
-  -- a variable for each degree
-  known : {i : ℕ} → i < length ds → i < length s.support.now
-  known l = rw length-replicate at l
-
   -- moves one after the other
   pub twice_follows : (c a b sums x y z : List ℕ) {once twice both : List ℕ} {n₁ n₂ n₃ : ℕ}
-      → Moves c a x n₁ once → Moves once b y n₂ twice → Moves c sums z n₃ both → n₁ ≡ 0 → n₂ ≡ 0 → n₃ ≡ 0
-      → ((i : ℕ) → i < length s.support.now → at sums i % 2 ^ w ≡ (at a i + at b i) % 2 ^ w) → twice ≡ both
-  twice_follows c a b sums x y z {once} m₁ m₂ m₃ z₁ z₂ z₃ h =
+      → Moves c a x n₁ once → Moves once b y n₂ twice → Moves c sums z n₃ both → length ds ≡ length support → n₁ ≡ 0 → n₂ ≡ 0 → n₃ ≡ 0
+      → ((i : ℕ) → i < length support → at sums i % 2 ^ w ≡ (at a i + at b i) % 2 ^ w) → twice ≡ both
+  twice_follows c a b sums x y z {once} m₁ m₂ m₃ long z₁ z₂ z₃ h =
       moved_to once b y m₂ z₂
       ∙ ap (λ (t : List ℕ). moved w ds t b) (moved_to c a x m₁ z₁)
-      ∙ moved-moved w ds c a b sums (λ i l. record { same = sym (h i (known l)) })
+      ∙ moved-moved w ds c a b sums (λ i l. record { same = sym (h i (rw long at l)) })
       ∙ sym (moved_to c sums z m₃ z₃)
 
   -- a move by nothing
   pub still_follows : (c os x copy : List ℕ) {out after : List ℕ} {n k : ℕ}
-      → Moves c os x n out → Reduces copy k after → copy ≡ c → n ≡ 0 → k ≡ 0
-      → ((i : ℕ) → i < length s.support.now → at os i % 2 ^ w ≡ 0) → out ≡ after
-  still_follows c os x copy m r same z z' h =
+      → Moves c os x n out → Reduces copy k after → length ds ≡ length support → copy ≡ c → n ≡ 0 → k ≡ 0
+      → ((i : ℕ) → i < length support → at os i % 2 ^ w ≡ 0) → out ≡ after
+  still_follows c os x copy m r long same z z' h =
       moved_to c os x m z
-      ∙ moved-zero w ds c os (λ i l. record { same = h i (known l) ∙ sym (zero-mod (2 ^ w)) })
+      ∙ moved-zero w ds c os (λ i l. record { same = h i (rw long at l) ∙ sym (zero-mod (2 ^ w)) })
       ∙ ap (box_reduced (bound w) ds) (sym same)
       ∙ sym (reduced copy r z')
 

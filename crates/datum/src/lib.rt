@@ -33,7 +33,7 @@ pub fn move_datum(
         return Err(Refusal::WrongLength);
     }
     let degrees = settings.degrees();
-    out.copy_from_slice(coeffs);
+    tables::copy(coeffs, out);
     moves::move_all(out, degrees.as_slice(), offsets);
     box_rows::reduce(out, degrees.as_slice(), settings.bitwidth);
     Ok(())

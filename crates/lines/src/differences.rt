@@ -183,7 +183,7 @@ impl LineTransform for Differences {
     }
 
     fn neighbours(self, table: &mut [u64], degree: u8) -> bool {
-        if degree != 1 {
+        if degree != 1 || table.len() % 2 != 0 {
             return false;
         }
         difference_twos(table);
@@ -191,6 +191,9 @@ impl LineTransform for Differences {
     }
 
     fn block(self, part: &mut [u64], block: Block) {
+        if !block.fits(part) {
+            return;
+        }
         difference_block(part, block);
     }
 }

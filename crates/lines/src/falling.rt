@@ -127,6 +127,9 @@ impl LineTransform for ToFalling {
     }
 
     fn block(self, part: &mut [u64], block: Block) {
+        if !block.fits(part) {
+            return;
+        }
         divide_block(part, block);
     }
 }

@@ -79,6 +79,9 @@ impl LineTransform for ToPowers {
     }
 
     fn block(self, part: &mut [u64], block: Block) {
+        if !block.fits(part) {
+            return;
+        }
         undivide_passes(part, block);
     }
 }

@@ -1,5 +1,5 @@
 // What a transform of lines is.
-ghost use Rattle.std.specs.Prelude.{◌≡◌, ℕ, suc, ◌%◌, ◌^◌, ◌≤◌, true, cond, length};
+ghost use Rattle.std.specs.Prelude.{◌≡◌, ℕ, ◌^◌, ◌≤◌, true, cond, length, ◌==◌};
 ghost use Rattle.meaning.specs.Tables.{tabulate, at};
 ghost use Rattle.theory.specs.AlongEach.{Line};
 ghost use Rattle.lines.specs.FlatTables.{blocked, Local};
@@ -28,22 +28,21 @@ pub trait FourTransform: Copy {
     ghost of_mul: { (x : Self) → OfMul (line x) };
 }
 
-// How it is done to the lines of a table, in place and modulo 2^64. That a table is cut into lines or blocks of one length is asked of its length in each
-// contract: it is a slice, lent anew for each part, and no type with a clause of its own.
+// How it is done to the lines of a table, in place and modulo 2^64. Whether a table is cut into lines, or as long as a block, each contract sees from its
+// length, and no step asks it: it is a slice, lent anew for each part, and no type with a clause of its own.
 pub trait LineTransform: FourTransform {
     // Whether lines of a degree stay as they are.
     fn leaves_lines(self, degree: u8) -> bool
         ensures { result ≡ true → Leaves (Self.line self (2 ^ 64)) degree };
 
-    // The lines of a first variable, which lie one behind the other, by a way of their own, where there is one for their degree: whether there is.
+    // The lines of a first variable, which lie one behind the other, by a way of their own, where there is one for their degree and the table is cut
+    // into such lines: whether it was so.
     fn neighbours(self, table: &mut [u64], degree: u8) -> bool
-        requires { (suc degree ≤ length table.old) × (length table.old % suc degree ≡ 0) }
         ensures { table.new ≡ cond result (tabulate (length table.old) (blocked (Self.line self (2 ^ 64)) 1 degree (at table.old))) table.old };
 
-    // Every line of a block.
+    // Every line of a block. A part that is not as long as the block is left as it was.
     fn block(self, part: &mut [u64], block: Block)
-        requires { length part.old ≡ size block }
-        ensures { part.new ≡ block_of (Self.line self (2 ^ 64)) block part.old };
+        ensures { part.new ≡ cond (length part.old == size block) (block_of (Self.line self (2 ^ 64)) block part.old) part.old };
 }
 
 // A transform that is given by a number.

@@ -84,17 +84,18 @@ impl MonomialKey {
         (Ok(self.exponents[at]), self)
     }
 
-    // The key with the exponent of one variable replaced. 11 from variable 20 on.
-    pub fn with_exponent(mut self, var_index: u8, new_val: u8) -> Result<Self, Refusal>
-        ensures says { key_said result ≡ cond (ltb var_index 20) 0 11 }
-        ensures gives { exponents_or self.exponents result ≡ exponent_set var_index new_val self.exponents }
+    // The key with the exponent of one variable replaced. 11 and the key as it was from variable 20 on. The key is given back beside a refusal too, as document 01
+    // asks.
+    pub fn with_exponent(mut self, var_index: u8, new_val: u8) -> (Result<(), Refusal>, Self)
+        ensures says { said_number result.0 ≡ cond (ltb var_index 20) 0 11 }
+        ensures gives { result.1.exponents ≡ exponent_set var_index new_val self.exponents }
     {
-        let at = usize::from(var_index);
-        if Self::MAX_POLY_VARS <= at {
-            return Err(Refusal::OutOfRange);
+        let place = usize::from(var_index);
+        if Self::MAX_POLY_VARS <= place {
+            return (Err(Refusal::OutOfRange), self);
         }
-        self.exponents[at] = new_val;
-        Ok(self)
+        self.exponents[place] = new_val;
+        (Ok(()), self)
     }
 
     // The sum of the first num_vars exponents. 11 where num_vars is above 20.

@@ -1,6 +1,6 @@
 // The lines of a first variable moved by an offset, in place and modulo 2^64: they are neighbours in the table, one line behind the other. Several lines go at
 // once, number by number: a number has the same factors in all of them, so that the factors are made once and the loop is long.
-ghost use Rattle.std.specs.Prelude.{◌≡◌, suc, ◌+◌, ◌%◌, ◌^◌, ◌<◌, length};
+ghost use Rattle.std.specs.Prelude.{◌≡◌, suc, ◌+◌, ◌%◌, ◌^◌, ◌<◌, true, length};
 ghost use Rattle.meaning.specs.Tables.{tabulate, at};
 ghost use Rattle.theory.specs.MovedLines.{moved_line};
 ghost use Rattle.lines.specs.FlatTables.{lined, blocked};
@@ -13,6 +13,17 @@ use crate::pairs::{Pairs, make_passes};
 pub(crate) struct Lines {
     pub(crate) degree: usize,
     pub(crate) offset: u64,
+}
+
+impl Lines {
+    // Whether a table is cut into such lines. A single line needs no division.
+    pub(crate) fn fit(self, table: &[u64]) -> bool
+        requires { self.degree < 256 }
+        ensures { result ≡ true → (self.degree < length table.now) × (length table.now % suc self.degree ≡ 0) }
+    {
+        let size = self.degree + 1;
+        table.len() == size || size < table.len() && table.len() % size == 0
+    }
 }
 
 // In every line number `place` gets `factor` times the next number added. The next function with `far` = 0 would leave out the last line,

@@ -26,11 +26,17 @@ impl LineTransform for Move {
             degree: degree as usize,
             offset: self.offset,
         };
+        if !lines.fit(table) {
+            return false;
+        }
         first::move_first(table, lines);
         true
     }
 
     fn block(self, part: &mut [u64], block: Block) {
+        if !block.fits(part) {
+            return;
+        }
         passes::move_block(part, block, self.offset);
     }
 }

@@ -42,24 +42,26 @@ fn answer<W: Write>(sink: &mut W, numbers: &[u64; 128]) -> io::Result<()> {
     }
 }
 
-// One byte of the text: a digit, the end of a line, or what parts two numbers.
-fn read_byte<W: Write>(sink: &mut W, line: Line, byte: u8) -> io::Result<Line> {
+// One byte of the text: a digit, the end of a line, or what parts two numbers. The line is lent: handed back in a `Result` its 128 numbers are cleared and
+// copied for every byte, and reading takes half as long again.
+fn read_byte<W: Write>(sink: &mut W, line: &mut Line, byte: u8) -> io::Result<()> {
     match byte {
         b'\n' => {
-            let whole = line.closed();
-            answer(sink, &whole.numbers)?;
-            Ok(Line::empty())
+            *line = line.closed();
+            answer(sink, &line.numbers)?;
+            *line = Line::empty();
         }
-        b'0'..=b'9' => Ok(line.with_digit(byte)),
-        _ => Ok(line.closed()),
+        b'0'..=b'9' => *line = line.with_digit(byte),
+        _ => *line = line.closed(),
     }
+    Ok(())
 }
 
 // Reads a text of cases.
 fn replay<W: Write>(sink: &mut W, text: &[u8]) -> io::Result<()> {
     let mut line = Line::empty();
     for byte in text {
-        line = read_byte(sink, line, *byte)?;
+        read_byte(sink, &mut line, *byte)?;
     }
     Ok(())
 }

@@ -60,8 +60,8 @@ module _ (d : ℕ) (f : ℕ → ℕ) where
   leaves-le s = omega (arith, recent-both s)
 
   -- it is no more than its entries allow
-  pub recent-le : (c : ℕ) → ((i : ℕ) → f i ≤ c) → (s : ℕ) → recent s ≤ suc d * c
-  recent-le c h s = le_trans (sum-le (min (suc d) s) c (λ e. h (s - suc e))) (mul-le-mul_right c (omega arith))
+  pub recent-le : (c : ℕ) → ((i : ℕ) → f i ≤ c) → (s : ℕ) → recent s ≤ min (suc d) s * c
+  recent-le c h s = sum-le (min (suc d) s) c (λ e. h (s - suc e))
 
 -- ---- the counts, one variable after another
 

@@ -5,12 +5,16 @@ ghost use Rattle.std.specs.Prelude.{◌≡◌, cond, eqb, length, ◌%◌, ◌^�
 ghost use Rattle.meaning.specs.Tables.{tabulate, at};
 
 // Makes `to` equal to `from`, where both have the same length, and else leaves it as it is: a copy that asks nothing of its caller, where `copy_from_slice`
-// asks for equal lengths. `from` is not altered.
+// asks for equal lengths. `from` is not altered. A loop, which the compiler makes a `memcpy`: `copy_from_slice` becomes a `memmove`, and a program in C that
+// links the library would have to have that too.
 pub fn copy(from: &[u64], to: &mut [u64])
     ensures { to.new ≡ cond (eqb (length from.now) (length to.old)) from.now to.old }
 {
-    if from.len() == to.len() {
-        to.copy_from_slice(from);
+    if from.len() != to.len() {
+        return;
+    }
+    for (i, entry) in to.iter_mut().enumerate() {
+        *entry = from[i];
     }
 }
 

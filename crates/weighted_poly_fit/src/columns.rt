@@ -5,6 +5,16 @@ ghost use Rattle.meaning.specs.Elimination.{joined};
 ghost use Rattle.meaning.specs.Fit.{columns};
 ghost use Rattle.weighted_poly_fit.specs.Listing.{listing, exponents_before, Listed};
 
+// Makes `part` the list. A loop, and no `copy_from_slice`, for the reason said at `tables::copy`.
+fn write_list(part: &mut [u8], list: &[u8])
+    requires { length part.old ≡ length list.now }
+    ensures { part.new ≡ list.now }
+{
+    for (i, exponent) in part.iter_mut().enumerate() {
+        *exponent = list[i];
+    }
+}
+
 // Writes the exponent lists with the sum `left` in the variables that remain, those of `degrees`, each behind the exponents that `current` has for the
 // variables before, from place `at` of the table on. The result is the place behind the last. `current` keeps the exponents of the variables before;
 // the others are used up. It takes table and place, and not the part of the table that is left: the place behind the last list is what a caller goes on from.
@@ -24,7 +34,7 @@ fn enumerate_basis_recurse(
             return at;
         }
         let end = at + current.len();
-        table[at..end].copy_from_slice(current);
+        write_list(&mut table[at..end], current);
         return end;
     }
     let place = current.len() - degrees.len();

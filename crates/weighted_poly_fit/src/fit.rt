@@ -103,6 +103,37 @@ fn tabled(variables: usize, grid_degree: u8) -> usize
     grid_degree as usize + 1
 }
 
+// The fit, by its equations: apart from the call, so that what its answer means is shown once and not at each return.
+fn weighted_fit(
+    weights: &[u64],
+    targets: &[u64],
+    settings: &FitSettings,
+    matrix: &mut [u64],
+    right: &mut [u64],
+    out: &mut [u64],
+) -> Result<u64, Refusal>
+    ensures { let s = settings.now in Called (fit_of s.total s.bitwidth s.support.now s.max_degree s.grid_degree weights.now targets.now
+        matrix.old right.old out.old) matrix.new right.new out.new (said result) }
+{
+    let room = sizes::fit_room(settings)?;
+    let answer = settings.answer();
+    let degrees = answer.degrees();
+    let grid = settings.grid().degrees();
+    let given = Given {
+        weights,
+        targets,
+        degrees: degrees.as_slice(),
+        grid: grid.as_slice(),
+        most: settings.max_degree,
+        rows: room.rows as usize,
+        cols: room.columns as usize,
+        side: tabled(settings.support.len(), settings.grid_degree),
+        size: answer.max_degree as usize + 1,
+        bitwidth: settings.bitwidth,
+    };
+    given.fit_box(matrix, right, out)
+}
+
 // Fits a polynomial in falling factorials to weighted targets on the grid {0, .., grid_degree} over the support variables, modulo 2^bitwidth: exponents
 // reach at most the smaller of max_degree and grid_degree, their sum at most max_degree. `weights` and `targets` have an entry for each grid point. On
 // success `out`, a box of that smaller degree, has the coefficients, each below 2^(bitwidth - q), q being the twos in the factorials of its exponents, and
@@ -123,21 +154,5 @@ pub fn recover_weighted_poly(
     ensures fits { let s = settings.now in Fits s.bitwidth (degrees_of (answer_of s)) (degrees_of (grid_of s)) s.max_degree
         weights.now targets.now (said result).number (said result).value out.new }
 {
-    let room = sizes::fit_room(settings)?;
-    let answer = settings.answer();
-    let degrees = answer.degrees();
-    let grid = settings.grid().degrees();
-    let given = Given {
-        weights,
-        targets,
-        degrees: degrees.as_slice(),
-        grid: grid.as_slice(),
-        most: settings.max_degree,
-        rows: room.rows as usize,
-        cols: room.columns as usize,
-        side: tabled(settings.support.len(), settings.grid_degree),
-        size: answer.max_degree as usize + 1,
-        bitwidth: settings.bitwidth,
-    };
-    given.fit_box(matrix, right, out)
+    weighted_fit(weights, targets, settings, matrix, right, out)
 }

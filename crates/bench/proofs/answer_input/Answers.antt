@@ -1,6 +1,6 @@
 -- What was read leads to a text, which is in the buffer (`answered`, `source_text`). No text is longer than the buffer, so that there is always room
 -- (`always_room`).
-use Rattle.std.proofs.Common.{rules}
+use Rattle.std.proofs.Common.{rules, ⊎_elim}
 use Rattle.bench.specs.Endings.{IsDecided}
 use Rattle.bench.specs.declared.Ending.{Ending}
 use Rattle.bench.proofs.EndingLaws.{answered, source_text, always_room}
@@ -36,3 +36,7 @@ returns-clause-of_source g c =
     source_text c.cell_room-values.result c.cell_room-values.ensures.zeros c.in_ok-input.input.reader c.read_input.new.values c.args.out.now
     c.answer_text.new.out c.answer_text.result c.in_ok-input.input.left c.in_ok-input.ensures.led.0 c.requires c.answer_text.ensures.says
     c.answer_text.ensures.leaves _ _ c.in_ok-input.ensures.led.1 c.in_ok-input.ensures.ends _ c.unwrap-size.ensures
+
+-- what was not decided is at its end
+pub returns-clause-ends : goal.returns-clause-ends
+returns-clause-ends g c = ⊎_elim (λ e. e) (λ (d : IsDecided c.in_ok-input.input.reader c.in_ok-input.input.left). absurd (search rules)) c.in_ok-input.ensures.ends

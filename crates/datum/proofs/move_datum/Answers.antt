@@ -49,11 +49,6 @@ returns-then-offsets-settings c =
     let t = sym (leaves s k.coeffs.now k.offsets.now k.out.now n) in
     record { says = sym n; leaves = t; moves = datum_moved s.total s.bitwidth s.support.now (degrees_of s) k.coeffs.now k.offsets.now k.out.now (sym n) t }
 
-pub copy_from_slice-requires : goal.copy_from_slice-requires
-copy_from_slice-requires c =
-    let ok = ready _ _ _ _ _ _ _ (sym c.in_ok-check_tables.ensures) in
-    ok.out_length ∙ sym ok.given_length
-
 pub returns : goal.returns
 returns c =
     let k = c.args in
@@ -61,6 +56,7 @@ returns c =
     let n = number-eq s k.coeffs.now k.offsets.now k.out.now c.in_ok-check_tables.ensures ∙ ap (λ (b : Bool). cond b 0 9) (eq-eqb _ _ c.if-offsets-settings.false) in
     let ok = ready false s.total s.bitwidth s.support.now (degrees_of s) k.coeffs.now k.out.now (sym c.in_ok-check_tables.ensures) in
     let all = c.degrees-degrees.ensures.all (variables_few k.offsets.now ok) in
-    let t = moved_of_steps k.offsets.now ok _ _ _ c.copy_from_slice.ensures.after (rw (c.as_slice.ensures ∙ all) at c.move_all.ensures) (rw (c.as_slice-2.ensures ∙ all) at c.reduce.ensures)
+    let copied : c.copy.new.to ≡ k.coeffs.now = c.copy.ensures ∙ simp (eq-eqb _ _ (ok.given_length ∙ sym ok.out_length)) in
+    let t = moved_of_steps k.offsets.now ok _ _ _ copied (rw (c.as_slice.ensures ∙ all) at c.move_all.ensures) (rw (c.as_slice-2.ensures ∙ all) at c.reduce.ensures)
     ∙ sym (leaves s k.coeffs.now k.offsets.now k.out.now n) in
     record { says = sym n; leaves = t; moves = datum_moved s.total s.bitwidth s.support.now (degrees_of s) k.coeffs.now k.offsets.now k.out.now (sym n) t }

@@ -7,20 +7,20 @@ use Rattle.bench_file.proofs.verdict.verdict_of.Goals as goal
 
 pub returns-in-Err-Head : goal.returns-in-Err-Head
 unfolding verdict
-returns-in-Err-Head c = grind (arith, common_steps, nat_tests)
+returns-in-Err-Head g c = grind (arith, common_steps, nat_tests)
 
-pub returns-in_err-settings : goal.returns-in_err-settings
+pub returns-then-not-passes : goal.returns-then-not-passes
 unfolding verdict
-returns-in_err-settings c = grind (arith, common_steps, nat_tests)
+returns-then-not-passes g c = grind (arith, common_steps, nat_tests)
 
-pub returns-in_err-reading : goal.returns-in_err-reading
+pub returns-then-is_err : goal.returns-then-is_err
 unfolding verdict
-returns-in_err-reading c = grind (arith, common_steps, nat_tests)
+returns-then-is_err g c = grind (arith, common_steps, nat_tests)
 
 pub returns-then-not-exact : goal.returns-then-not-exact
 unfolding verdict
-returns-then-not-exact c = grind (arith, common_steps, nat_tests)
+returns-then-not-exact g c = grind (arith, common_steps, nat_tests)
 
 pub returns : goal.returns
 unfolding verdict
-returns c = grind (arith, common_steps, nat_tests)
+returns g c = grind (arith, common_steps, nat_tests)

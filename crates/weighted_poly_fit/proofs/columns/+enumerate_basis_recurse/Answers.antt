@@ -4,8 +4,8 @@ use Rattle.weighted_poly_fit.proofs.Pasted.{pasted_part}
 use Rattle.weighted_poly_fit.proofs.Steps.{rest_whole, listing_last, listed_last, listed_nothing, steps-start, steps-fits, steps_room, steps_next, steps-done}
 use Rattle.weighted_poly_fit.proofs.columns.+enumerate_basis_recurse.Goals as goal
 
-pub slice_bounds-copy_from_slice-end : goal.slice_bounds-copy_from_slice-end
-slice_bounds-copy_from_slice-end t c =
+pub slice_bounds-write_list-end : goal.slice_bounds-write_list-end
+slice_bounds-write_list-end t c =
     let a = c.args in
     omega (
       arith,
@@ -22,7 +22,7 @@ pub returns-then-degrees-eq0 : goal.returns-then-degrees-eq0
 returns-then-degrees-eq0 t c =
     let a = c.args in
     listed_last a.table.now a.at a.current.now a.degrees.now c.if-degrees-eq0.true a.left c.if-left-ne0.false _
-    (pasted_part a.table.now a.at a.current.now c.copy_from_slice.ensures.after)
+    (pasted_part a.table.now a.at a.current.now c.write_list.ensures)
 
 pub loop-e-init : goal.loop-e-init
 loop-e-init t c =
